@@ -1,0 +1,91 @@
+-- What a comparison of words says of their members: no member, a subset, the same bits under a mask.
+use Prim.Native.Nat.{ℕ, zero, suc, _^_, _<_}
+use native.Mathlib.Nat.{lt-of-le-of-lt}
+use mathlib.Core.Path.{_≡_, refl, sym, ap, _∙_}
+use mathlib.Core.Bool.{Bool, true, false, not, _&&_, _||_, Bool·beq}
+use lib.Dec.{eqb}
+use lib.Pow.{pow-pos}
+use lib.Bits.{bitAnd, bitXor, and-le-l, and-le-r}
+use borrow.Author.Tests.{eqb-true, eq-eqb}
+use Rattle.simulation.specs.Sets.{Set, anyBelow, allBelow}
+use Rattle.simulation.proofs.Sets.{same, all-make, all-take}
+use Rattle.bits.specs.Word.{bit, members, within}
+use Rattle.bits.proofs.Words.{zero-members, same-below, and-members, xor-members}
+
+beq-same : (p : Bool) → Bool·beq p p ≡ true
+beq-same true = refl
+beq-same false = refl
+
+beq-take : (p q : Bool) → Bool·beq p q ≡ true → p ≡ q
+beq-take true true e = refl
+beq-take true false e = sym e
+beq-take false true e = e
+beq-take false false e = refl
+
+-- two words of k bits are equal where P holds below k, if P holds where both or neither have the number
+pub equal-all : (k a b : ℕ) (P : Set) → a < 2 ^ k → b < 2 ^ k → ((i : ℕ) → Bool·beq (members a i) (members b i) ≡ P i)
+    → eqb a b ≡ allBelow k P
+equal-all k a b P ha hb h =
+    same (eqb a b) (allBelow k P)
+    (λ (e : eqb a b ≡ true).
+    all-make k P
+    (λ i l.
+    sym (h i)
+    ∙ ap (λ (x : ℕ). Bool·beq (members x i) (members b i)) (eqb-true a b e)
+    ∙ beq-same (members b i)))
+    (λ (e : allBelow k P ≡ true).
+    eq-eqb a b (same-below k a b ha hb (λ i l. beq-take (members a i) (members b i) (h i ∙ all-take k P e i l))))
+
+-- ---- no member
+
+beq-false : (p : Bool) → Bool·beq p false ≡ not p
+beq-false true = refl
+beq-false false = refl
+
+not-or : (p q : Bool) → not (p || q) ≡ (not p && not q)
+not-or true q = refl
+not-or false q = refl
+
+pub not-any : (n : ℕ) (X : Set) → not (anyBelow n X) ≡ allBelow n (λ i. not (X i))
+unfolding anyBelow allBelow
+not-any zero X = refl
+not-any (suc n) X = not-or (X n) (anyBelow n X) ∙ ap (λ (t : Bool). not (X n) && t) (not-any n X)
+
+-- a word is zero if and only if a condition that fails at each member, and there alone, holds below k
+zero-all : (k w : ℕ) (P : Set) → w < 2 ^ k → ((i : ℕ) → not (members w i) ≡ P i) → eqb w 0 ≡ allBelow k P
+zero-all k w P h e =
+    equal-all k w 0 P h (pow-pos k)
+    (λ i. ap (Bool·beq (members w i)) (zero-members i) ∙ beq-false (members w i) ∙ e i)
+
+pub empty-any : (k w : ℕ) → w < 2 ^ k → eqb w 0 ≡ not (anyBelow k (members w))
+empty-any k w h = zero-all k w (λ i. not (members w i)) h (λ i. refl) ∙ sym (not-any k (members w))
+
+-- ---- a subset: a & b is a
+
+part : (p q : Bool) → Bool·beq (p && q) p ≡ (not p || q)
+part true true = refl
+part true false = refl
+part false q = refl
+
+pub subset-within : (k a b : ℕ) → a < 2 ^ k → eqb (bitAnd a b) a ≡ within k a b
+unfolding within
+subset-within k a b h =
+    equal-all k (bitAnd a b) a (λ i. not (members a i) || members b i) (lt-of-le-of-lt (and-le-l a b) h) h
+    (λ i. ap (λ (t : Bool). Bool·beq t (members a i)) (and-members a b i) ∙ part (members a i) (members b i))
+
+-- ---- the same bits where m has a 1: (v ^ s) & m is zero
+
+under : (e m : Bool) → not (not e && m) ≡ (not m || e)
+under true true = refl
+under true false = refl
+under false true = refl
+under false false = refl
+
+pub masked : (k m v s : ℕ) → m < 2 ^ k
+    → eqb (bitAnd (bitXor v s) m) 0 ≡ allBelow k (λ i. not (members m i) || eqb (bit v i) (bit s i))
+masked k m v s h =
+    zero-all k (bitAnd (bitXor v s) m) (λ i. not (members m i) || eqb (bit v i) (bit s i))
+    (lt-of-le-of-lt (and-le-r (bitXor v s) m) h)
+    (λ i.
+    ap not (and-members (bitXor v s) m i ∙ ap (λ (t : Bool). t && members m i) (xor-members v s i))
+    ∙ under (eqb (bit v i) (bit s i)) (members m i))

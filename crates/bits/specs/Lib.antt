@@ -1,0 +1,2 @@
+-- Sets of small numbers in a word.
+pub mod Word

@@ -1,0 +1,66 @@
+// Sets of the numbers 0 to 31, each held in a word: bit i is 1 where i is a member.
+ghost use mathlib.Core.Path.{_≡_};
+ghost use mathlib.Core.Bool.{not};
+ghost use Prim.Native.Nat.{_^_, _<_};
+ghost use Rattle.simulation.specs.Sets.{also, without, union, minus, anyBelow};
+ghost use Rattle.bits.specs.Word.{members, within};
+
+// Whether i is a member.
+pub fn has(word: u32, i: u32) -> bool
+    requires { ⌜ i < 32 ⌝ }
+    ensures { λ r. ⌜ r ≡ members word i ⌝ }
+{
+    (word >> i) % 2 == 1
+}
+
+// The word whose one member is i.
+pub fn only(i: u32) -> u32
+    requires { ⌜ i < 32 ⌝ }
+    ensures { λ r. ⌜ r ≡ 2 ^ i ⌝ }
+{
+    1 << i
+}
+
+// The set with i as a member.
+pub fn added(word: u32, i: u32) -> u32
+    requires { ⌜ i < 32 ⌝ }
+    ensures { λ r. ⌜ members r ≡ also (members word) i ⌝ }
+{
+    word | only(i)
+}
+
+// The set without i.
+pub fn removed(word: u32, i: u32) -> u32
+    requires { ⌜ i < 32 ⌝ }
+    ensures { λ r. ⌜ members r ≡ without (members word) i ⌝ }
+{
+    word & !only(i)
+}
+
+// The members of a and those of b.
+pub fn united(a: u32, b: u32) -> u32
+    ensures { λ r. ⌜ members r ≡ union (members a) (members b) ⌝ }
+{
+    a | b
+}
+
+// The members of a that are not in b.
+pub fn difference(a: u32, b: u32) -> u32
+    ensures { λ r. ⌜ members r ≡ minus (members a) (members b) ⌝ }
+{
+    a & !b
+}
+
+// Whether each member of a is one of b.
+pub fn subset(a: u32, b: u32) -> bool
+    ensures { λ r. ⌜ r ≡ within 32 a b ⌝ }
+{
+    a & b == a
+}
+
+// Whether there is no member.
+pub fn empty(word: u32) -> bool
+    ensures { λ r. ⌜ r ≡ not (anyBelow 32 (members word)) ⌝ }
+{
+    word == 0
+}

@@ -1,0 +1,57 @@
+-- 01, "Standing", and the trial set of "Edits and what they report".
+use Prim.Native.Nat.{ℕ, _*_, _<_}
+use mathlib.Core.Path.{_≡_}
+use mathlib.Core.Bool.{Bool, true, not, _&&_}
+use lib.Dec.{ltb, eqb}
+use Rattle.simulation.specs.Sets.{Set, allBelow, anyBelow, count}
+use Rattle.simulation.specs.System.{closure}
+use Rattle.simulation.specs.Pattern.{paired, system, best}
+use Rattle.session.specs.Trigger.{Trigger, Graph, Marks, states, nodes, linked, edge, admits, pattern}
+
+-- "A simulation is a set of pairs (state u, node v) such that u admits v, and for each link from u to u' there is an edge from v to some v'
+-- with (u', v') in the set."
+pub record Simulation (t : Trigger) (g : Graph) (R : ℕ → ℕ → Type 0) : Type 0 where
+  pub inside : (u v : ℕ) → R u v → (u < states t) × (v < nodes g)
+  pub admitted : (u v : ℕ) → R u v → admits t g u v ≡ true
+  pub carried : (u u' v : ℕ) → u' < states t → linked t u u' ≡ true → R u v → (v' : ℕ) × (edge g v v' ≡ true) × R u' v'
+
+-- "It is the greatest, and its pairs stand." That it is a simulation and holds every one is proved in proofs/Standing.
+unfoldable pub stands : Trigger → Graph → Marks
+stands t g = best (pattern t g)
+
+-- "The trigger fires when every state stands at some node", of any marks
+unfoldable pub fires : Trigger → Graph → Marks → Bool
+fires t g m = allBelow (states t) (λ u. anyBelow (nodes g) (m u))
+
+-- Document 000's match relation: a simulation in which every state has a node; and the pairs of its largest one, none where there is none.
+pub record Match (t : Trigger) (g : Graph) (R : ℕ → ℕ → Type 0) : Type 0 where
+  pub simulates : Simulation t g R
+  pub total : (u : ℕ) → u < states t → (v : ℕ) × R u v
+
+abbrev pub Matched : Trigger → Graph → ℕ → ℕ → Type 0
+Matched t g u v = (X : Marks) × Match t g (λ u v. X u v ≡ true) × (X u v ≡ true)
+
+-- how many pairs of the trigger and the graph are in the set
+abbrev pub size : Trigger → Graph → Set → ℕ
+size t g X = count (nodes g * states t) X
+
+abbrev pub pairsOf : Trigger → Graph → Marks → Set
+pairsOf t g m = paired (pattern t g) m
+
+-- "admitted but not standing before"
+abbrev pub fresh : Trigger → Graph → Marks → Marks
+fresh t g m u v = admits t g u v && not (m u v)
+
+-- The trial set of an insertion of (a, b), by its two clauses: R has them where g is the graph after the insertion and m the marks before it.
+pub record Tried (t : Trigger) (g : Graph) (m : Marks) (a b : ℕ) (R : ℕ → ℕ → Type 0) : Type 0 where
+  -- "(1) each such pair (u, a) where u has a link to a state admitting b"
+  pub starts : (u u' : ℕ) → u < states t → u' < states t → fresh t g m u a ≡ true → linked t u u' ≡ true → admits t g u' b ≡ true → R u a
+  -- "(2) each such pair (u, w) with a link from u to u' and an edge, after the insertion, from w to w', where (u', w') is in the set"
+  pub spreads : (u w u' w' : ℕ) → u < states t → w < nodes g → fresh t g m u w ≡ true → linked t u u' ≡ true → edge g w w' ≡ true
+      → R u' w' → R u w
+
+-- "the least set of pairs": a set of pairs of the trigger and the graph. That it has both clauses and lies in every such R is proved in proofs/Trials.
+unfoldable pub trialSet : Trigger → Graph → Marks → ℕ → ℕ → Set
+trialSet t g m a b =
+    closure (system (pattern t g)) (pairsOf t g (fresh t g m))
+    (pairsOf t g (λ u v. eqb v a && anyBelow (states t) (λ u'. linked t u u' && admits t g u' b)))

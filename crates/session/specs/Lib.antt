@@ -1,0 +1,4 @@
+-- Trigger, graph and the session that holds them.
+pub mod Limits
+pub mod Trigger
+pub mod Layout
