@@ -1,15 +1,15 @@
 -- The laws of one bit of a word: under &, |, ^ and the complement, and of a power of two.
 use Prim.Native.Nat.{ℕ, zero, suc, _+_, _-_, _*_, _/_, _%_, _^_, _≤_, _<_, min, max}
 use native.Mathlib.Nat.{pow-suc, div-one, zero-div, div-eq-of-lt, zero-lt-suc, min-le-left, lt-of-le-of-lt, lt-of-lt-of-le}
+use native.Mathlib.Numerals.{one-add}
 use native.Mathlib.Omega.{arith}
 use mathlib.Core.Path.{_≡_, refl, sym, ap, ap₂, _∙_}
 use lib.Arith.{digits-mod, lt-one}
 use lib.Pow.{pow-mono, shr-shr}
-use native.Mathlib.Numerals.{one-add}
 use lib.Bits.{bitAnd, bitOr, bitXor, differ, and-step, or-step, xor-step, and-shr, or-shr, xor-shr}
 use Rattle.bits.specs.Word.{bit}
 
--- ---- one bit down
+-- ---- the lowest bit, the others one down, and those of zero
 
 pub bit-zero : (w : ℕ) → bit w 0 ≡ w % 2
 bit-zero w = ap (λ (x : ℕ). x % 2) (div-one w)
@@ -82,7 +82,7 @@ pow-other (suc j) zero h = bit-zero (2 ^ suc j) ∙ omega (arith, pow-suc 2 j)
 pow-other (suc j) (suc i) h =
     bit-suc (2 ^ suc j) i ∙ ap (λ (x : ℕ). bit x i) (pow-half j) ∙ pow-other j i (λ e. h (ap suc e))
 
--- ---- the bits of the complement within k bits
+-- ---- the complement within k bits: the bit and its own add up to 1
 
 odd-not : (p a : ℕ) → a < p * 2 → (p * 2 - 1 - a) % 2 + a % 2 ≡ 1
 odd-not p a h = omega arith

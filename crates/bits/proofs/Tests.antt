@@ -22,7 +22,7 @@ beq-take true false e = sym e
 beq-take false true e = e
 beq-take false false e = refl
 
--- two words of k bits are equal where P holds below k, if P holds where both or neither have the number
+-- two words of k bits are equal where P holds below k, if P says that both or neither have the number
 pub equal-all : (k a b : ℕ) (P : Set) → a < 2 ^ k → b < 2 ^ k → ((i : ℕ) → Bool·beq (members a i) (members b i) ≡ P i)
     → eqb a b ≡ allBelow k P
 equal-all k a b P ha hb h =
@@ -46,12 +46,13 @@ not-or : (p q : Bool) → not (p || q) ≡ (not p && not q)
 not-or true q = refl
 not-or false q = refl
 
+-- no number below n is in X: each is outside
 pub not-any : (n : ℕ) (X : Set) → not (anyBelow n X) ≡ allBelow n (λ i. not (X i))
 unfolding anyBelow allBelow
 not-any zero X = refl
 not-any (suc n) X = not-or (X n) (anyBelow n X) ∙ ap (λ (t : Bool). not (X n) && t) (not-any n X)
 
--- a word is zero if and only if a condition that fails at each member, and there alone, holds below k
+-- a word of k bits is zero where P holds below k, if P fails at the members alone
 zero-all : (k w : ℕ) (P : Set) → w < 2 ^ k → ((i : ℕ) → not (members w i) ≡ P i) → eqb w 0 ≡ allBelow k P
 zero-all k w P h e =
     equal-all k w 0 P h (pow-pos k)

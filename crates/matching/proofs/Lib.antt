@@ -1,2 +1,11 @@
 -- The laws of the definitions, and the proofs of the demands.
+pub mod Stands
+pub mod Trials
+pub mod Changes
+pub mod Chains
+pub mod Verdicts
+pub mod Loads
 pub mod Worked
+pub mod Edits
+pub mod Steps
+pub mod Demands

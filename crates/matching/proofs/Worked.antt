@@ -1,29 +1,92 @@
 -- Worked cases, computed from the definitions alone: the session of 01, a ring closed by one edge, a pair tried and dropped, a ring broken.
-use Prim.Native.Nat.{ℕ, _*_}
+use Prim.Native.Nat.{ℕ, zero, suc}
 use mathlib.Core.Path.{_≡_, refl}
 use mathlib.Core.Bool.{Bool, true, false}
-use mathlib.Core.List.{List, [], _∷_}
+use mathlib.Core.List.{List, [], _∷_, map}
 use lib.IntN.{ℤ, pos, negsuc}
-use Rattle.session.specs.Trigger.{Trigger, Graph, Marks}
-use Rattle.matching.specs.Standing.{stands, fires, size, pairsOf}
-use Rattle.matching.specs.Changes.{changes}
+use Rattle.simulation.specs.Sets.{anyBelow, allBelow, count, shrunk, down, grown, up}
+use Rattle.simulation.specs.System.{greatest, supported, closure, reaches}
+use Rattle.simulation.specs.Pattern.{best}
+use Rattle.simulation.specs.Ordered.{elem, insert, remove, joins}
+use Rattle.session.specs.Trigger.{Trigger, Graph, linked, edge, edgeNumber, admits, agrees}
+use Rattle.matching.specs.Standing.{stands, fires, size, pairsOf, trialSet}
+use Rattle.matching.specs.Changes.{joinTo, changes}
+use Rattle.matching.specs.Order.{fold, visit, order}
 use Rattle.matching.specs.Rules.{Kind, insertion, deletion, edited, graphRules, verdict}
 use Rattle.matching.specs.Promises.{trialCount}
-use Rattle.matching.specs.Order.{order}
 
--- what an edit of a session with the right marks answers: the rule broken, firing, the trial count, the change list
-pub record Told : Type 0 where
-  pub rule : ℕ
-  pub fired : Bool
-  pub trials : ℕ
-  pub list : List ℤ
+-- a load, or an edit of (start, end), of this trigger and this graph
+data Asked : Type 0 where
+  load : Trigger → Graph → Asked
+  edit : Kind → Trigger → Graph → ℕ → ℕ → Asked
 
-ring2 : Trigger
-ring2 = record { masks = 0xFFFF ∷ 0xFFFF ∷ []; values = 1 ∷ 2 ∷ []; links = 2 ∷ 1 ∷ [] }
+-- what is answered where the marks are right: the rule broken, or firing, the trial count and the change list
+data Told : Type 0 where
+  refuse : ℕ → Told
+  report : Bool → ℕ → List ℤ → Told
 
-g0 : Graph
-g0 = record { samples = 1 ∷ 2 ∷ []; edges = 1 ∷ 512 ∷ [] }
+judge : ℕ → Told → Told
+judge zero r = r
+judge (suc n) r = refuse (suc n)
 
-t1 : stands ring2 g0 0 0 ≡ true
-unfolding stands ring2 g0 Rattle.simulation.specs.Pattern.best Rattle.simulation.specs.System.greatest Rattle.simulation.specs.System.supported Rattle.simulation.specs.Sets.shrunk Rattle.simulation.specs.Sets.down Rattle.simulation.specs.Sets.anyBelow Rattle.simulation.specs.Sets.allBelow Rattle.session.specs.Trigger.linked Rattle.session.specs.Trigger.edge Rattle.session.specs.Trigger.admits Rattle.session.specs.Trigger.agrees Rattle.simulation.specs.Ordered.joins Rattle.simulation.specs.Ordered.elem
-t1 = refl
+answer : Asked → Told
+answer (load t g) = report (fires t g (stands t g)) (size t g (pairsOf t g (admits t g))) (changes t g (λ u v. false) (stands t g))
+answer (edit k t g a b) =
+    let g' = edited k g a b in
+    judge (verdict (graphRules k g a b))
+    (report (fires t g' (stands t g')) (trialCount k t g' (stands t g) (stands t g') a b) (changes t g (stands t g) (stands t g')))
+
+-- 01's session: two states linked to each other, each admitting its own node
+two : Trigger
+two = record { masks = 0xFFFF ∷ 0xFFFF ∷ []; values = 1 ∷ 2 ∷ []; links = 2 ∷ 1 ∷ [] }
+
+-- one state linked to itself that admits every node
+self : Trigger
+self = record { masks = 0 ∷ []; values = 0xFF ∷ []; links = 1 ∷ [] }
+
+-- State One linked to itself and to state 3, which links back to it; state 2 is not reached
+three : Trigger
+three = record { masks = 0 ∷ 0 ∷ 0 ∷ []; values = 0 ∷ 0 ∷ 0 ∷ []; links = 5 ∷ 1 ∷ 1 ∷ [] }
+
+graph : List ℕ → List ℕ → Graph
+graph samples edges = record { samples = samples; edges = edges }
+
+two-nodes : List ℕ → Graph
+two-nodes = graph (1 ∷ 2 ∷ [])
+
+rows : List Asked
+rows =
+    load two (two-nodes [])
+    ∷ edit insertion two (two-nodes []) 0 1
+    ∷ edit insertion two (two-nodes (edgeNumber 0 1 ∷ [])) 1 0
+    ∷ edit insertion two (two-nodes (edgeNumber 0 1 ∷ edgeNumber 1 0 ∷ [])) 1 0
+    ∷ edit deletion two (two-nodes (edgeNumber 0 1 ∷ edgeNumber 1 0 ∷ [])) 0 1
+    ∷ edit insertion self (graph (0 ∷ 0 ∷ 0 ∷ []) (edgeNumber 0 1 ∷ edgeNumber 1 2 ∷ [])) 2 0
+    ∷ edit insertion self (graph (0 ∷ 0 ∷ []) []) 0 1
+    ∷ edit deletion self (graph (0 ∷ 0 ∷ []) (edgeNumber 0 1 ∷ edgeNumber 1 0 ∷ [])) 0 1
+    ∷ edit deletion self (graph (0 ∷ 0 ∷ []) (edgeNumber 0 1 ∷ edgeNumber 1 0 ∷ [])) 1 1
+    ∷ edit insertion self (graph (0 ∷ 0 ∷ []) []) 0 2
+    ∷ []
+
+told : List Told
+told =
+    report false 2 []
+    ∷ report false 1 []
+    ∷ report true 2 (pos 1 ∷ pos 66 ∷ [])
+    ∷ refuse 12
+    ∷ report false 2 (negsuc 0 ∷ negsuc 65 ∷ [])
+    ∷ report true 3 (pos 1 ∷ pos 65 ∷ pos 129 ∷ [])
+    ∷ report false 1 []
+    ∷ report false 2 (negsuc 0 ∷ negsuc 64 ∷ [])
+    ∷ refuse 14
+    ∷ refuse 11
+    ∷ []
+
+worked : map answer rows ≡ told
+unfolding answer judge rows told two self graph two-nodes verdict insert remove joins elem edge linked admits agrees fires stands best
+    greatest supported shrunk down anyBelow allBelow count changes joinTo trialSet closure grown up reaches
+worked = refl
+
+worked-orders : map order (two ∷ self ∷ three ∷ []) ≡ ((1 ∷ 2 ∷ []) ∷ (1 ∷ []) ∷ (1 ∷ 3 ∷ 2 ∷ []) ∷ [])
+unfolding two self three order visit fold elem linked
+worked-orders = refl

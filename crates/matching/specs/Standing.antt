@@ -15,7 +15,7 @@ pub record Simulation (t : Trigger) (g : Graph) (R : ℕ → ℕ → Type 0) : T
   pub admitted : (u v : ℕ) → R u v → admits t g u v ≡ true
   pub carried : (u u' v : ℕ) → u' < states t → linked t u u' ≡ true → R u v → (v' : ℕ) × (edge g v v' ≡ true) × R u' v'
 
--- "It is the greatest, and its pairs stand." That it is a simulation and holds every one is proved in proofs/Standing.
+-- "It is the greatest, and its pairs stand." That it is a simulation and holds every one is proved in proofs/Stands.
 unfoldable pub stands : Trigger → Graph → Marks
 stands t g = best (pattern t g)
 

@@ -5,7 +5,7 @@ use native.Mathlib.Omega.{arith}
 use mathlib.Core.Path.{_≡_, refl, sym, _∙_, ap}
 use mathlib.Core.Logic.{_⊎_, inl, inr, ⊎-elim}
 use mathlib.Core.Bool.{Bool, true, false, not, _&&_, _||_, cond, or-comm, or-assoc, or-false, and-true, and-false}
-use mathlib.Core.List.{List, [], _∷_}
+use mathlib.Core.List.{List, [], _∷_, _++_}
 use lib.Dec.{ltb, eqb}
 use lib.ListN.{length, getD}
 use borrow.Author.Tests.{ltb-true, ltb-false, lt-ltb, eqb-true, eqb-false, eq-eqb}
@@ -212,3 +212,17 @@ insert-remove x xs r h =
 
 pub length-remove : (x : ℕ) (xs : List ℕ) → Rising xs → elem x xs ≡ true → suc (length (remove x xs)) ≡ length xs
 length-remove x xs r h = sym (length-insert x (remove x xs)) ∙ ap length (insert-remove x xs r h)
+
+-- ---- one list after another
+
+pub elem-append : (x : ℕ) (xs ys : List ℕ) → elem x (xs ++ ys) ≡ (elem x xs || elem x ys)
+unfolding elem
+elem-append x [] ys = refl
+elem-append x (y ∷ xs) ys = rw (elem-append x xs ys) (sym (or-assoc (eqb x y) (elem x xs) (elem x ys)))
+
+pub rising-append : (xs ys : List ℕ) → Rising xs → Rising ys → ((x y : ℕ) → elem x xs ≡ true → elem y ys ≡ true → x < y) → Rising (xs ++ ys)
+rising-append [] ys h k above = k
+rising-append (x ∷ xs) ys h k above = (
+  λ y e. ⊎-elim (λ i. h .0 y i) (λ i. above x y (elem-head x xs) i) (or-take (elem y xs) (elem y ys) (sym (elem-append y xs ys) ∙ e)),
+  rising-append xs ys (h .1) k (λ z y i j. above z y (elem-tail z x xs i) j),
+)

@@ -1,0 +1,6 @@
+-- The laws of the session's definitions.
+pub mod Tables
+pub mod Valid
+pub mod Image
+pub mod Decoded
+pub mod Admission
