@@ -12,7 +12,7 @@ use Rattle.simulation.specs.Pattern.{Pattern, pair, system, best, plain}
 use Rattle.simulation.proofs.Terms as terms
 use Rattle.simulation.proofs.Terms.{changed, joined}
 use Rattle.simulation.proofs.Sets.{clash, split, refuted}
-use Rattle.simulation.proofs.Pattern.{pair-state, pair-node, meets-take, best-state, best-pair, best-make, best-of}
+use Rattle.simulation.proofs.Pattern.{pair-state, pair-node, pair-whole, meets-take, best-state, best-pair, best-make, best-of}
 use Rattle.simulation.proofs.Change.{minus-make, minus-l, minus-r}
 use Rattle.simulation.proofs.Plain.{plain-grows, plain-chain}
 use Rattle.session.specs.Trigger.{Trigger, Graph, Marks, states, nodes, linked, edge, admits, pattern}
@@ -71,13 +71,10 @@ module _ (t : Trigger) (samples es more-es : List ℕ) (a b : ℕ) (one-more : e
         rw stands-less
             (refuted (best A (p % n) (p / n))
             (λ e.
-            clash (subst (In (greatest (system A))) (whole p) (best-pair A (p % n) (p / n) e))
+            clash (subst (In (greatest (system A))) (pair-whole A p) (best-pair A (p % n) (p / n) e))
             (minus-r (greatest (system B)) (greatest (system A)) p h))),
         rw stands-more new,
       )
-    where
-      whole : (p : ℕ) → pair A (p % n) (p / n) ≡ p
-      whole p = Rattle.simulation.proofs.Pattern.pair-whole A p
 
   module _ (before after : Marks) (differs : (u v : ℕ) → stands t (over samples es) u v ≡ false → stands t (over samples more-es) u v ≡ true → before u v ≡ after u v → ⊥) where
     walk : {p : ℕ} → terms.Chain (system B) moved (λ q. eqb (q / n) a) p → Chain t more before after a (p % n) (p / n)

@@ -5,34 +5,19 @@ use native.Mathlib.Omega.{arith}
 use mathlib.Core.Path.{_≡_, refl, sym, _∙_, ap, subst}
 use mathlib.Core.Logic.{_⊎_, inl, inr, ⊎-elim, _↔_}
 use mathlib.Core.Bool.{Bool, true, false}
-use mathlib.Core.List.{
-  List,
-  [],
-  _∷_,
-  _++_,
-  map,
-  map-append,
-  List·Memᴰ,
-  List·Memᴰ·head,
-  List·Memᴰ·not-nil,
-  List·Memᴰ·append-cases,
-  List·Memᴰ·eq-of-singleton,
-  Memᴰ·append-left,
-  Memᴰ·append-right,
-}
-use lib.Dec.{leb}
-use lib.IntN.{ℤ, pos, negsuc, negℤ, natAbs}
-use lib.ListN.{length, take, length-append}
+use mathlib.Core.List.{List, [], _++_, map, map-append, List·Memᴰ, List·Memᴰ·head, List·Memᴰ·not-nil, List·Memᴰ·append-cases, List·Memᴰ·eq-of-singleton, Memᴰ·append-left, Memᴰ·append-right}
+use lib.IntN.{ℤ, pos, negℤ, natAbs}
+use lib.ListN.{length, length-append}
 use lib.Seq.{take-append-seam}
 use borrow.Author.Tests.{le-leb}
 use Rattle.simulation.specs.Ordered.{elem}
 use Rattle.simulation.proofs.Ordered.{Rising, elem-take, rising-append, elem-append}
 use Rattle.simulation.proofs.Sets.{clash, or-take}
-use Rattle.simulation.proofs.Pattern.{pair-state, pair-node, pair-inside, state-inside, node-inside, some-state}
+use Rattle.simulation.proofs.Pattern.{pair-state, pair-node, pair-inside, state-inside, node-inside}
 use Rattle.session.specs.Trigger.{Trigger, Graph, Marks, states, nodes, pattern}
 use Rattle.matching.specs.declared.Answer.{Answer}
 use Rattle.matching.specs.Changes.{sizeOf, change, joinTo, changes}
-use Rattle.matching.specs.Answers.{Outcome, Summary, accepted, told, changesTold, handedBack}
+use Rattle.matching.specs.Answers.{told, changesTold, handedBack}
 
 -- ---- one change
 

@@ -1,46 +1,24 @@
 -- The three demands, from the promises of the calls alone.
-use Prim.Native.Nat.{ℕ, zero, suc, _<_, _≤_}
+use Prim.Native.Nat.{ℕ, zero, suc}
 use native.Mathlib.Omega.{arith}
 use mathlib.Core.Path.{_≡_, refl, sym, _∙_, ap, subst}
 use mathlib.Core.Logic.{⊎-elim}
-use mathlib.Core.Bool.{Bool, true, false}
-use mathlib.Core.List.{List, [], _∷_, _++_}
-use lib.Dec.{ltb}
+use mathlib.Core.Bool.{false}
+use mathlib.Core.List.{List, _++_}
 use lib.IntN.{ℤ}
 use lib.ListN.{length, drop}
-use Rattle.session.specs.Limits.{maxChanges, fixedSize}
-use Rattle.session.specs.Trigger.{Trigger, Graph, Marks, states}
+use Rattle.session.specs.Limits.{fixedSize}
+use Rattle.session.specs.Trigger.{Trigger, Graph, Marks}
 use Rattle.session.specs.Layout.{image, marksOf}
-use Rattle.session.proofs.Valid.{TriggerFacts, GraphFacts}
 use Rattle.session.proofs.Decoded.{marks-image}
 use Rattle.matching.specs.declared.Answer.{Answer}
-use Rattle.matching.specs.declared.Standing.{Standing}
-use Rattle.matching.specs.declared.FiringAnswer.{FiringAnswer}
-use Rattle.matching.specs.declared.StateOrder.{StateOrder}
-use Rattle.matching.specs.Standing.{Simulation, stands, fires}
+use Rattle.matching.specs.Standing.{stands, fires}
 use Rattle.matching.specs.Changes.{changes}
 use Rattle.matching.specs.Answers.{Outcome, Summary, accepted, refused, outcome, told, changesTold, firesTold, handedBack}
 use Rattle.matching.specs.Rules.{Kind, insertion, deletion, Given, givenTrigger, givenGraph, edited, verdict, loadRules, editRules}
-use Rattle.matching.specs.Promises.{Untouched, Written, Loaded, Edited, Carried}
-use Rattle.matching.specs.Model.{Model, begun, Edit, modelRules, step, freshly}
-use Rattle.matching.specs.Demands.{
-  Judged,
-  Answered,
-  Demand1,
-  Demand2,
-  Call,
-  Run,
-  ended,
-  called,
-  editOf,
-  Chain,
-  holding,
-  Faithful,
-  Held,
-  Kept,
-  Follows,
-  Demand3,
-}
+use Rattle.matching.specs.Promises.{Untouched, Loaded, Edited}
+use Rattle.matching.specs.Model.{Model, begun, Edit, modelRules, step}
+use Rattle.matching.specs.Demands.{Judged, Answered, Demand1, Demand2, Call, Run, ended, called, editOf, Faithful, Held, Kept, Follows, Demand3}
 use Rattle.matching.proofs.Stands.{stands-simulates, stands-greatest, stands-inside, fires-iff}
 use Rattle.matching.proofs.Changes.{changes-none, handed-back, handed-none}
 use Rattle.matching.proofs.Verdicts.{accepts-or, verdict-lacks}
@@ -108,7 +86,7 @@ demand1 = record {
 -- ---- Demand 2
 
 pub demand2 : (x : Given) (s : List ℕ) (c : List ℤ) (r : Answer) (s' : List ℕ) (c' : List ℤ) → Loaded x s c r s' c'
-    → verdict (loadRules (length s) (length c) x) ≡ 0 → Demand2 x r s' c'
+    → verdict (loadRules (length s) (length c) x) ≡ 0 → Demand2 x r s'
 demand2 x s c r s' c' p ok =
     let t = givenTrigger x in
     let g = givenGraph x in

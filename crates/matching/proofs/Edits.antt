@@ -1,5 +1,5 @@
 -- One accepted edit of a valid graph: it stays valid, what stands grows or shrinks with it, and every changed pair has its chain.
-use Prim.Native.Nat.{ℕ, _<_, _≤_}
+use Prim.Native.Nat.{ℕ, _<_}
 use native.Mathlib.Nat.{lt-of-lt-of-le}
 use native.Mathlib.Omega.{arith}
 use mathlib.Core.Path.{_≡_, refl, sym, _∙_}
@@ -8,12 +8,12 @@ use lib.Dec.{ltb, leb}
 use lib.ListN.{length}
 use borrow.Author.Tests.{ltb-true, leb-false, not-false}
 use Rattle.simulation.proofs.Sets.{clash, and-l, and-r}
-use Rattle.session.specs.Limits.{maxEdges, maxNodes}
+use Rattle.session.specs.Limits.{maxEdges}
 use Rattle.session.specs.Trigger.{Trigger, Graph, Marks, nodes, edge}
 use Rattle.session.proofs.Valid.{GraphFacts, edge-insert, edge-remove, graph-insert, graph-remove}
 use Rattle.matching.specs.Standing.{stands}
 use Rattle.matching.specs.Changes.{changes}
-use Rattle.matching.specs.Rules.{Rule, rule, Kind, insertion, deletion, edited, graphRules, verdict}
+use Rattle.matching.specs.Rules.{Kind, insertion, deletion, edited, graphRules, verdict}
 use Rattle.matching.specs.Demands.{Chain, holding}
 use Rattle.matching.proofs.Verdicts.{verdict-pass}
 use Rattle.matching.proofs.Chains.{stands-grows, stands-chain, only-gained}

@@ -1,11 +1,12 @@
 -- The laws of the definitions, and the proofs of the demands.
+pub mod Worked
 pub mod Stands
 pub mod Trials
 pub mod Changes
 pub mod Chains
 pub mod Verdicts
+pub mod Orders
 pub mod Loads
-pub mod Worked
 pub mod Edits
 pub mod Steps
 pub mod Demands

@@ -1,13 +1,13 @@
 -- A load that breaks no rule gives a valid trigger and graph; and a valid trigger and graph, loaded afresh, break none.
-use Prim.Native.Nat.{ℕ, suc, _+_, _-_, _*_, _/_, _%_, _^_, _<_, _≤_}
+use Prim.Native.Nat.{ℕ, suc, _+_, _-_, _/_, _%_, _^_, _<_, _≤_}
 use native.Mathlib.Nat.{div-add-mod'}
 use native.Mathlib.Numerals.{add-one}
 use native.Mathlib.Omega.{arith}
 use mathlib.Core.Path.{_≡_, refl, sym, _∙_, ap}
-use mathlib.Core.Logic.{_⊎_, inl, inr, ⊎-elim}
+use mathlib.Core.Logic.{⊎-elim}
 use mathlib.Core.Bool.{Bool, true, false, not, _&&_, _||_}
-use mathlib.Core.List.{List, [], _∷_, map}
-use lib.Dec.{ltb, leb, eqb}
+use mathlib.Core.List.{List}
+use lib.Dec.{ltb, eqb}
 use lib.ListN.{length, getD, length-map, List·getD-map}
 use borrow.Author.Tests.{ltb-true, ltb-false, lt-ltb, le-ltb, eqb-true, eqb-false, eq-eqb, ne-eqb, not-false}
 use Rattle.simulation.specs.Sets.{allBelow}
@@ -15,11 +15,11 @@ use Rattle.simulation.specs.Ordered.{elem, ascends}
 use Rattle.simulation.proofs.Sets.{clash, and-make, and-l, and-r, or-l, or-r, or-take, all-make, all-take, split}
 use Rattle.simulation.proofs.Ordered.{Rising, elem-at, elem-index, rising-take, ascending}
 use Rattle.session.specs.Limits.{maxStates, maxNodes, maxEdges, maxChanges, fixedSize, wordBits}
-use Rattle.session.specs.Trigger.{Trigger, Graph, states, nodes, edgeNumber}
+use Rattle.session.specs.Trigger.{states, nodes, edgeNumber}
 use Rattle.session.specs.Layout.{table, below}
 use Rattle.session.proofs.Tables.{length-table, getD-table, table-same, table-of, below-take, below-make}
 use Rattle.session.proofs.Valid.{TriggerFacts, GraphFacts}
-use Rattle.matching.specs.Rules.{Rule, rule, verdict, Given, givenTrigger, givenGraph, precedes, loadRules}
+use Rattle.matching.specs.Rules.{verdict, Given, givenTrigger, givenGraph, precedes, loadRules}
 use Rattle.matching.specs.Model.{Model, freshly}
 use Rattle.matching.proofs.Verdicts.{verdict-pass, verdict-none}
 
@@ -208,22 +208,35 @@ module _ (b : Model) (tf : TriggerFacts (b .trigger)) (gf : GraphFacts (b .graph
 
   pub fresh-accepted : (memory room : ℕ) → fixedSize ≤ memory → maxChanges ≤ room → verdict (loadRules memory room (freshly b)) ≡ 0
   fresh-accepted memory room long wide =
-      verdict-none (loadRules memory room (freshly b))
-      (or-false (le-ltb memory fixedSize long) (le-ltb room maxChanges wide),
-      (or-false
-      (or-false (ne-eqb n 0 (λ z. absurd (omega (arith, tf .some)))) (le-ltb maxStates n (tf .few)))
-      (or-false (not-makes (eq-eqb _ n (tf .values))) (not-makes (eq-eqb _ n (tf .links)))),
-      (not-makes (tf .links-fit),
-      (le-ltb maxNodes (nodes (b .graph)) (gf .few),
-      (or-false (le-ltb maxEdges m (omega (arith, gf .few-edges, starts-long))) (not-makes (eq-eqb (length (freshly b .ends)) m (ends-long ∙ sym starts-long))),
-      (not-makes (and-make
-      (below-make (nodes (b .graph)) (freshly b .starts) (λ k l. rw (start-at k) (gf .starts (getD es k 0) (elem-at es k (omega (arith, starts-long))))))
-      (below-make (nodes (b .graph)) (freshly b .ends) (λ k l. rw (end-at k) (gf .ends (getD es k 0) (elem-at es k (omega (arith, ends-long))))))),
-      (not-makes (all-make (m - 1) row-ascends
-      (λ k l.
-      rw (start-at k, end-at k, start-at (suc k), end-at (suc k))
-      (less-precedes (getD es k 0) (getD es (suc k) 0) (ascending es (gf .rising) k (suc k) (omega arith) (omega (arith, starts-long)))))),
-      tt)))))))
+      verdict-none (loadRules memory room (freshly b)) (
+        or-false (le-ltb memory fixedSize long) (le-ltb room maxChanges wide),
+        (
+          or-false
+              (or-false (ne-eqb n 0 (λ z. absurd (omega (arith, tf .some)))) (le-ltb maxStates n (tf .few)))
+              (or-false (not-makes (eq-eqb _ n (tf .values))) (not-makes (eq-eqb _ n (tf .links)))),
+          (
+            not-makes (tf .links-fit),
+            (
+              le-ltb maxNodes (nodes (b .graph)) (gf .few),
+              (
+                or-false (le-ltb maxEdges m (omega (arith, gf .few-edges, starts-long))) (not-makes (eq-eqb (length (freshly b .ends)) m (ends-long ∙ sym starts-long))),
+                (
+                  not-makes (and-make
+                      (below-make (nodes (b .graph)) (freshly b .starts) (λ k l. rw (start-at k) (gf .starts (getD es k 0) (elem-at es k (omega (arith, starts-long))))))
+                      (below-make (nodes (b .graph)) (freshly b .ends) (λ k l. rw (end-at k) (gf .ends (getD es k 0) (elem-at es k (omega (arith, ends-long))))))),
+                  (
+                    not-makes (all-make (m - 1) row-ascends
+                        (λ k l.
+                        rw (start-at k, end-at k, start-at (suc k), end-at (suc k))
+                        (less-precedes (getD es k 0) (getD es (suc k) 0) (ascending es (gf .rising) k (suc k) (omega arith) (omega (arith, starts-long)))))),
+                    tt,
+                  ),
+                ),
+              ),
+            ),
+          ),
+        ),
+      )
     where
       n : ℕ
       n = states (b .trigger)

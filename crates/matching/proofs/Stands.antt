@@ -1,15 +1,14 @@
 -- What stands is the greatest simulation; firing; and document 000's match relation.
 use Prim.Native.Nat.{ℕ, _<_}
-use mathlib.Core.Path.{_≡_, sym, _∙_}
+use mathlib.Core.Path.{_≡_}
 use mathlib.Core.Logic.{_↔_}
-use mathlib.Core.Bool.{Bool, true, false}
-use Rattle.simulation.specs.Sets.{anyBelow, allBelow}
-use Rattle.simulation.specs.Pattern.{best}
+use mathlib.Core.Bool.{true, false}
+use Rattle.simulation.specs.Sets.{anyBelow}
 use Rattle.simulation.proofs.Terms.{Simulates}
 use Rattle.simulation.proofs.Sets.{clash, any-make, any-take, all-make, all-take}
 use Rattle.simulation.proofs.Pattern.{best-simulates, within-best}
 use Rattle.session.specs.Trigger.{Trigger, Graph, Marks, states, nodes, admits, pattern}
-use Rattle.matching.specs.Standing.{Simulation, stands, fires, Match, Matched}
+use Rattle.matching.specs.Standing.{Simulation, stands, fires, Matched}
 
 module _ (t : Trigger) (g : Graph) where
   best-is : Simulates (pattern t g) (λ u v. stands t g u v ≡ true)

@@ -1,24 +1,23 @@
 -- A session that is the image of the model with its greatest simulation: a load makes it so, and each edit keeps it so.
-use Prim.Native.Nat.{ℕ, _<_, _≤_}
+use Prim.Native.Nat.{ℕ}
 use native.Mathlib.Omega.{arith}
 use mathlib.Core.Path.{_≡_, refl, sym, _∙_, ap, subst}
 use mathlib.Core.Logic.{⊎-elim}
-use mathlib.Core.Bool.{Bool, true, false, not, _||_, cond}
-use mathlib.Core.List.{List, _∷_, _++_}
-use lib.Dec.{ltb, eqb}
+use mathlib.Core.Bool.{true}
+use mathlib.Core.List.{List, _++_}
+use lib.Dec.{ltb}
 use lib.IntN.{ℤ}
 use lib.ListN.{length, drop, length-append}
-use lib.Seq.{take-append-seam}
 use borrow.Author.Tests.{le-ltb, eq-eqb, ne-eqb}
 use Rattle.session.specs.Limits.{maxChanges, fixedSize}
-use Rattle.session.specs.Trigger.{Trigger, Graph, Marks, states, nodes}
+use Rattle.session.specs.Trigger.{Trigger, Graph, Marks}
 use Rattle.session.specs.Layout.{image, triggerOf, graphOf, marksOf, inLayout}
 use Rattle.session.proofs.Valid.{TriggerFacts, GraphFacts, trigger-facts, trigger-valid, graph-facts, graph-valid, marks-valid}
 use Rattle.session.proofs.Image.{length-image, drop-image}
-use Rattle.session.proofs.Decoded.{Inside, trigger-image, graph-image, marks-image, layout-image}
+use Rattle.session.proofs.Decoded.{trigger-image, graph-image, marks-image, layout-image}
 use Rattle.matching.specs.declared.Answer.{Answer}
 use Rattle.matching.specs.Standing.{stands}
-use Rattle.matching.specs.Rules.{rule, Given, givenTrigger, givenGraph, Kind, edited, verdict, graphRules, loadRules, editRules}
+use Rattle.matching.specs.Rules.{Given, edited, verdict, graphRules, loadRules, editRules}
 use Rattle.matching.specs.Promises.{Loaded, Edited, Carried}
 use Rattle.matching.specs.Model.{Model, begun, Edit, modelRules, step}
 use Rattle.matching.specs.Demands.{Faithful}

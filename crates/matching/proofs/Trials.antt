@@ -1,30 +1,16 @@
 -- The trial set has the two clauses of 01, and lies in every set that has them.
 use Prim.Native.Nat.{ℕ, _%_, _/_, _<_}
 use mathlib.Core.Path.{_≡_, refl, sym, _∙_}
-use mathlib.Core.Bool.{Bool, true, _&&_}
-use lib.Dec.{ltb, eqb}
+use mathlib.Core.Bool.{true, _&&_}
+use lib.Dec.{eqb}
 use borrow.Author.Tests.{eq-eqb, eqb-true}
 use Rattle.simulation.specs.Sets.{Set, In, anyBelow}
 use Rattle.simulation.specs.System.{closure}
-use Rattle.simulation.specs.Pattern.{Pattern, pair, paired, related, system}
+use Rattle.simulation.specs.Pattern.{Pattern, pair, related, system}
 use Rattle.simulation.proofs.Sets.{and-make, and-l, and-r, any-make, any-take}
 use Rattle.simulation.proofs.System.{closure-inside, closure-seed, closure-step, closure-least, closure-domain}
-use Rattle.simulation.proofs.Pattern.{
-  pair-state,
-  pair-node,
-  pair-inside,
-  state-inside,
-  node-inside,
-  pair-whole,
-  paired-pair,
-  related-state,
-  related-pair,
-  related-make,
-  meets-make,
-  meets-take,
-  due-at,
-}
-use Rattle.session.specs.Trigger.{Trigger, Graph, Marks, states, nodes, linked, edge, admits, pattern}
+use Rattle.simulation.proofs.Pattern.{pair-state, pair-node, pair-inside, state-inside, node-inside, paired-pair, related-state, related-pair, related-make, meets-make, meets-take, due-at}
+use Rattle.session.specs.Trigger.{Trigger, Graph, Marks, states, nodes, linked, admits, pattern}
 use Rattle.matching.specs.Standing.{fresh, pairsOf, Tried, trialSet}
 
 module _ (t : Trigger) (g : Graph) (m : Marks) (a b : ℕ) where

@@ -2,7 +2,7 @@
 use Prim.Native.Nat.{ℕ, _<_, _≤_}
 use mathlib.Core.Path.{_≡_}
 use mathlib.Core.Logic.{_↔_}
-use mathlib.Core.Bool.{Bool, true, false}
+use mathlib.Core.Bool.{true}
 use mathlib.Core.List.{List, [], _∷_, _++_}
 use lib.IntN.{ℤ}
 use lib.ListN.{length, drop}
@@ -42,7 +42,7 @@ pub record Demand1 : Type 0 where
 
 -- ---- Demand 2
 
-pub record Demand2 (x : Given) (r : Answer) (s : List ℕ) (c : List ℤ) : Type 1 where
+pub record Demand2 (x : Given) (r : Answer) (s : List ℕ) : Type 1 where
   -- "each marked pair lies in some simulation and no simulation holds an unmarked one"
   pub simulates : Simulation (givenTrigger x) (givenGraph x) (λ u v. marksOf s u v ≡ true)
   pub greatest : (R : ℕ → ℕ → Type 0) → Simulation (givenTrigger x) (givenGraph x) R → (u v : ℕ) → R u v → marksOf s u v ≡ true

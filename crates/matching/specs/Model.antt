@@ -1,6 +1,6 @@
 -- 01, "The book of demand 3": the model. It knows what the calls are given, and nothing of a session or an answer.
 use Prim.Native.Nat.{ℕ}
-use mathlib.Core.Bool.{Bool, cond}
+use mathlib.Core.Bool.{cond}
 use mathlib.Core.List.{List, _∷_, map}
 use lib.Dec.{ltb, eqb}
 use Prim.Native.Nat.{_/_, _%_}

@@ -1,6 +1,6 @@
 -- 01, "The walk order of a trigger": the depth-first order.
 use Prim.Native.Nat.{ℕ, zero, suc, _+_}
-use mathlib.Core.Bool.{Bool, cond}
+use mathlib.Core.Bool.{cond}
 use mathlib.Core.List.{List, [], _∷_, _++_, map}
 use Rattle.simulation.specs.Ordered.{elem}
 use Rattle.session.specs.Trigger.{Trigger, states, linked}

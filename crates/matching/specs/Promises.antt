@@ -1,7 +1,7 @@
 -- What each call promises of its answer, of every word of the session and of every place of the change room, from entry (s, c) to exit (s', c').
 use Prim.Native.Nat.{ℕ, _-_, _≤_, _^_}
 use mathlib.Core.Path.{_≡_}
-use mathlib.Core.Bool.{Bool, true, false, cond}
+use mathlib.Core.Bool.{true, false, cond}
 use mathlib.Core.List.{List, [], _++_}
 use lib.Dec.{eqb}
 use lib.IntN.{ℤ}
@@ -39,13 +39,13 @@ pub record Untouched (n : ℕ) (s : List ℕ) (c : List ℤ) (r : Answer) (s' : 
   pub session : s' ≡ s
   pub room : c' ≡ c
 
--- The call leaves this trigger, this graph and the marks `after`, where the marks were `before`: "lent memory beyond that size is not written",
--- the list "is written to the front of the caller's change room", "the rest of the change room is not written".
-pub record Written (t : Trigger) (g : Graph) (before after : Marks) (trials : ℕ)
+-- The call leaves this trigger, this graph and these marks, and this change list: "lent memory beyond that size is not written", the list
+-- "is written to the front of the caller's change room", "the rest of the change room is not written".
+pub record Written (t : Trigger) (g : Graph) (m : Marks) (trials : ℕ) (list : List ℤ)
     (s : List ℕ) (c : List ℤ) (r : Answer) (s' : List ℕ) (c' : List ℤ) : Type 0 where
-  pub answer : told r ≡ accepted record { fires = fires t g after; trials = trials; changes = length (changes t g before after) }
-  pub session : s' ≡ image t g after ++ drop fixedSize s
-  pub room : c' ≡ changes t g before after ++ drop (length (changes t g before after)) c
+  pub answer : told r ≡ accepted record { fires = fires t g m; trials = trials; changes = length list }
+  pub session : s' ≡ image t g m ++ drop fixedSize s
+  pub room : c' ≡ list ++ drop (length list) c
 
 -- A load. "At load the change list is all standing pairs, and the trial count is the number of admitted pairs." The words are 16 bits wide.
 pub record Loaded (x : Given) (s : List ℕ) (c : List ℤ) (r : Answer) (s' : List ℕ) (c' : List ℤ) : Type 0 where
@@ -53,7 +53,7 @@ pub record Loaded (x : Given) (s : List ℕ) (c : List ℤ) (r : Answer) (s' : L
   pub refuses : (verdict (loadRules (length s) (length c) x) ≡ 0 → ⊥) → Untouched (verdict (loadRules (length s) (length c) x)) s c r s' c'
   pub accepts : verdict (loadRules (length s) (length c) x) ≡ 0
       → let t = givenTrigger x in let g = givenGraph x in
-      Written t g (λ u v. false) (stands t g) (size t g (pairsOf t g (admits t g))) s c r s' c'
+      Written t g (stands t g) (size t g (pairsOf t g (admits t g))) (changes t g (λ u v. false) (stands t g)) s c r s' c'
 
 -- "the number of pairs that ceased to stand"
 abbrev pub ceased : Trigger → Graph → Marks → Marks → ℕ
@@ -75,7 +75,7 @@ trialCount deletion t g before after a b = ceased t g before after
 pub record Carried (k : Kind) (t : Trigger) (g : Graph) (before after : Marks) (a b : ℕ)
     (s : List ℕ) (c : List ℤ) (r : Answer) (s' : List ℕ) (c' : List ℤ) : Type 0 where
   pub trials : ℕ
-  pub written : Written t (edited k g a b) before after trials s c r s' c'
+  pub written : Written t (edited k g a b) after trials (changes t (edited k g a b) before after) s c r s' c'
   pub admitted : validMarks t (edited k g a b) after ≡ true
   pub free : Free k t (edited k g a b) before after trials
   pub right : before ≡ stands t g

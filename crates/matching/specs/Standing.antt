@@ -2,7 +2,7 @@
 use Prim.Native.Nat.{ℕ, _*_, _<_}
 use mathlib.Core.Path.{_≡_}
 use mathlib.Core.Bool.{Bool, true, not, _&&_}
-use lib.Dec.{ltb, eqb}
+use lib.Dec.{eqb}
 use Rattle.simulation.specs.Sets.{Set, allBelow, anyBelow, count}
 use Rattle.simulation.specs.System.{closure}
 use Rattle.simulation.specs.Pattern.{paired, system, best}

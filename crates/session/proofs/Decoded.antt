@@ -2,6 +2,7 @@
 use Prim.Native.Nat.{ℕ, _+_, _<_, _≤_}
 use native.Mathlib.Omega.{arith}
 use mathlib.Core.Path.{_≡_, sym, ap, fun-ext, _∙_}
+use mathlib.Core.Logic.{_↔_}
 use mathlib.Core.Bool.{true, _&&_}
 use mathlib.Core.List.{List, [], _++_}
 use lib.Dec.{ltb, leb, eqb}
@@ -234,13 +235,16 @@ module _ (xs : List ℕ) where
         counts = (n0, n1, n2);
       }
 
--- ---- equal images have equal parts
+-- ---- two valid images are equal exactly where their parts are
 
 pub same-image : (t t' : Trigger) (g g' : Graph) (m m' : Marks) → TriggerFacts t → TriggerFacts t' → GraphFacts g → GraphFacts g'
-    → Inside t g m → Inside t' g' m' → image t g m ≡ image t' g' m' → (t ≡ t') × (g ≡ g') × (m ≡ m')
-same-image t t' g g' m m' f f' k k' i i' e =
-    let e' = ap (λ (xs : List ℕ). xs ++ []) e in (
-      sym (trigger-image t g m [] f) ∙ ap triggerOf e' ∙ trigger-image t' g' m' [] f',
-      sym (graph-image t g m [] k) ∙ ap graphOf e' ∙ graph-image t' g' m' [] k',
-      sym (marks-image t g m [] (k .few) i) ∙ ap marksOf e' ∙ marks-image t' g' m' [] (k' .few) i',
-    )
+    → Inside t g m → Inside t' g' m' → (image t g m ≡ image t' g' m') ↔ ((t ≡ t') × (g ≡ g') × (m ≡ m'))
+same-image t t' g g' m m' f f' k k' i i' = (
+  λ e.
+      let e' = ap (λ (xs : List ℕ). xs ++ []) e in (
+        sym (trigger-image t g m [] f) ∙ ap triggerOf e' ∙ trigger-image t' g' m' [] f',
+        sym (graph-image t g m [] k) ∙ ap graphOf e' ∙ graph-image t' g' m' [] k',
+        sym (marks-image t g m [] (k .few) i) ∙ ap marksOf e' ∙ marks-image t' g' m' [] (k' .few) i',
+      ),
+  λ w. ap (λ (x : Trigger). image x g m) (w .0) ∙ ap (λ (x : Graph). image t' x m) (w .1) ∙ ap (image t' g') (w .2),
+)

@@ -1,26 +1,13 @@
 -- One edge more or less: which pairs can change, and how the greatest simulation is found from the old one.
 use Prim.Native.Nat.{ℕ, _<_}
 use mathlib.Core.Path.{_≡_, refl}
-use mathlib.Core.Logic.{_⊎_, inl, inr, ⊎-elim}
-use mathlib.Core.Bool.{Bool, true, false, not, _&&_, _||_}
+use mathlib.Core.Logic.{⊎-elim}
+use mathlib.Core.Bool.{false, not}
 use Rattle.simulation.specs.Sets.{Set, In, none, union, minus}
 use Rattle.simulation.specs.System.{System, supported, greatest, refined, closure}
 use Rattle.simulation.proofs.Terms.{Simulation, Chain, seed, step, meeting, touched, changed}
 use Rattle.simulation.proofs.Sets.{clash, split, refuted, and-make, and-l, and-r, or-l, or-r, or-take, not-make, not-take}
-use Rattle.simulation.proofs.System.{
-  Met,
-  supported-make,
-  greatest-simulates,
-  within-greatest,
-  sandwich,
-  reaches-make,
-  reaches-take,
-  closure-inside,
-  closure-seed,
-  closure-step,
-  closure-domain,
-  closure-chain,
-}
+use Rattle.simulation.proofs.System.{supported-make, greatest-simulates, within-greatest, sandwich, reaches-make, reaches-take, closure-seed, closure-step, closure-domain, closure-chain}
 
 pub minus-make : (X Y : Set) (p : ℕ) → In X p → Y p ≡ false → In (minus X Y) p
 minus-make X Y p x y = and-make x (not-make y)

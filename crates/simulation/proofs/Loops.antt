@@ -1,30 +1,16 @@
 -- What a loop needs that shrinks or grows a set until nothing changes: a step, its measure, and the end.
-use Prim.Native.Nat.{ℕ, zero, suc, _+_, _*_, _<_, _≤_}
+use Prim.Native.Nat.{ℕ, zero, suc, _+_, _*_, _<_}
 use native.Mathlib.Nat.{add-suc, add-zero, suc-mul, zero-mul}
 use native.Mathlib.Omega.{arith}
-use lib.Dec.{ltb, eqb}
-use lib.ListN.{length, getD, set}
-use lib.Seq.{getD-set-same, getD-set-other}
-use borrow.Author.Tests.{eqb-true, eqb-false, eq-eqb, ne-eqb}
-use mathlib.Core.Path.{_≡_, refl, sym, _∙_, ap, fun-ext}
-use mathlib.Core.Logic.{_⊎_, inl, inr, ⊎-elim}
-use mathlib.Core.Bool.{Bool, true, false, not, _&&_, _||_, cond, and-true, and-false, or-true, or-false}
-use mathlib.Core.List.{List}
-use Rattle.simulation.specs.Sets.{Set, In, union, minus, count, without, also}
+use lib.Dec.{eqb}
+use borrow.Author.Tests.{eqb-true, eq-eqb}
+use mathlib.Core.Path.{_≡_, refl, _∙_, ap}
+use mathlib.Core.Logic.{⊎-elim}
+use mathlib.Core.Bool.{Bool, true, false, not, _||_, cond, and-false}
+use Rattle.simulation.specs.Sets.{Set, In, union, count, without, also}
 use Rattle.simulation.specs.System.{System, supported, refined, reaches, closure}
-use Rattle.simulation.proofs.Sets.{clash, split, same, and-make, and-l, and-r, or-l, or-r, or-take, not-make, not-take, count-drop, count-le}
-use Rattle.simulation.proofs.System.{
-  extensional,
-  sweep,
-  swept,
-  closure-inside,
-  closure-seed,
-  closure-step,
-  closure-least,
-  closure-domain,
-  reaches-take,
-  reaches-make,
-}
+use Rattle.simulation.proofs.Sets.{clash, split, and-make, and-l, or-l, or-r, or-take, not-make, count-drop}
+use Rattle.simulation.proofs.System.{extensional, sweep, closure-seed, closure-step, closure-least, reaches-take, reaches-make}
 
 -- ---- one number less, one more
 

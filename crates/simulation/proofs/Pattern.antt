@@ -1,17 +1,17 @@
 -- Pairs of a pattern as numbers, and its greatest simulation over states and nodes.
-use Prim.Native.Nat.{ℕ, zero, suc, _+_, _*_, _/_, _%_, _<_, _≤_}
+use Prim.Native.Nat.{ℕ, zero, suc, _*_, _/_, _%_, _<_}
 use native.Mathlib.Nat.{div-lt-iff-lt-mul, div-add-mod', mod-lt}
 use native.Mathlib.Omega.{arith}
 use lib.Arith.{digits-lt, digits-div, digits-mod}
 use lib.Dec.{ltb, eqb}
 use borrow.Author.Tests.{ltb-true, lt-ltb, eqb-true, eq-eqb}
-use mathlib.Core.Path.{_≡_, refl, sym, _∙_, ap}
-use mathlib.Core.Bool.{Bool, true, false, _&&_}
+use mathlib.Core.Path.{_≡_, sym, _∙_, ap}
+use mathlib.Core.Bool.{Bool, true}
 use Rattle.simulation.specs.Sets.{Set, In}
-use Rattle.simulation.specs.System.{System, greatest}
+use Rattle.simulation.specs.System.{greatest}
 use Rattle.simulation.specs.Pattern.{Pattern, pair, paired, related, system, best}
 use Rattle.simulation.proofs.Terms.{Simulation, Simulates, carrying}
-use Rattle.simulation.proofs.Sets.{and-make, and-l, and-r, clash}
+use Rattle.simulation.proofs.Sets.{and-make, and-l, and-r}
 use Rattle.simulation.proofs.System.{greatest-simulates, within-greatest}
 
 module _ (P : Pattern) where

@@ -1,9 +1,9 @@
 -- The greatest simulation of a system, its refinement within bounds, and backward closure.
 use Prim.Native.Nat.{ℕ, _<_}
-use mathlib.Core.Path.{_≡_, refl, sym, _∙_, fun-ext}
+use mathlib.Core.Path.{_≡_, fun-ext}
 use mathlib.Core.Logic.{_⊎_, inl, inr, ⊎-elim, _↔_}
-use mathlib.Core.Bool.{Bool, true, false, not, _&&_, _||_}
-use Rattle.simulation.specs.Sets.{Set, In, union, minus, none, anyBelow, allBelow, shrunk, grown, down}
+use mathlib.Core.Bool.{false, not, _&&_, _||_}
+use Rattle.simulation.specs.Sets.{Set, In, union, anyBelow, shrunk}
 use Rattle.simulation.specs.System.{System, supported, level, greatest, refined, reaches, closure}
 use Rattle.simulation.proofs.Terms.{Simulation, Chain, seed, step}
 use Rattle.simulation.proofs.Sets.{

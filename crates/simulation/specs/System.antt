@@ -1,6 +1,6 @@
 -- An AND-OR system over pairs: pair p owes each obligation o that is due of it, and a pair q may meet it.
 use Prim.Native.Nat.{ℕ}
-use mathlib.Core.Bool.{Bool, not, _&&_, _||_}
+use mathlib.Core.Bool.{not, _&&_, _||_}
 use Rattle.simulation.specs.Sets.{Set, union, anyBelow, allBelow, shrunk, grown, down}
 
 -- pairs are the numbers below `pairs`, obligations those below `duties`
