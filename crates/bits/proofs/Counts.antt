@@ -1,17 +1,21 @@
--- The laws of counts: one member more, one less, and a wider range.
-use Prim.Native.Nat.{ℕ, zero, suc, _^_, _≤_, _<_}
+-- The laws of counts: one member more, one less, a wider range, and the counts of a word's digits.
+use Prim.Native.Nat.{ℕ, zero, suc, _+_, _/_, _%_, _^_, _≤_, _<_}
+use native.Mathlib.Nat.{pow-suc}
 use native.Mathlib.Decide.{le-ind}
 use native.Mathlib.Omega.{arith}
-use mathlib.Core.Path.{_≡_, refl, sym, ap, _∙_}
+use mathlib.Core.Path.{_≡_, refl, sym, ap, ap₂, _∙_}
 use mathlib.Core.Logic.{⊎-elim}
-use mathlib.Core.Bool.{true, false, _&&_, and-true, or-true, or-false}
+use mathlib.Core.Bool.{true, false, _&&_, cond, and-true, or-true, or-false}
+use lib.Arith.{lt-one}
+use lib.Count.{ones, onesIn, ones-step, trailingZeros, under}
 use lib.Dec.{eqb}
-use borrow.Author.Tests.{eqb-true, eqb-false, ne-eqb}
+use borrow.Author.Tests.{eqb-true, eqb-false, eq-eqb, ne-eqb}
 use Rattle.simulation.specs.Sets.{Set, In, also, without, count}
 use Rattle.simulation.proofs.Sets.{clash, split, refuted}
 use Rattle.simulation.proofs.Loops.{without-gone, count-same, count-apart}
-use Rattle.bits.specs.Word.{members}
-use Rattle.bits.proofs.Words.{members-below}
+use Rattle.bits.specs.Word.{bit, members}
+use Rattle.bits.proofs.Bits.{bit-zero, bit-suc}
+use Rattle.bits.proofs.Words.{bit-member, members-below}
 
 -- no member below n
 pub count-none : (n : ℕ) (X : Set) → ((p : ℕ) → p < n → X p ≡ false) → count n X ≡ 0
@@ -60,3 +64,47 @@ count-beyond k j X h =
 -- and so for a word of k bits
 pub count-wider : (k j w : ℕ) → w < 2 ^ k → k ≤ j → count j (members w) ≡ count k (members w)
 count-wider k j w h l = count-beyond k j (members w) (members-below k w h) l
+
+-- ---- the counts of a word's digits
+
+-- the members of a word but 0, one down
+half-members : (w i : ℕ) → members w (suc i) ≡ members (w / 2) i
+half-members w i = ap (λ (x : ℕ). eqb x 1) (bit-suc w i)
+
+-- 0 counted first, and the others one down
+count-low : (n : ℕ) (X : Set) → count (suc n) X ≡ cond (X 0) 1 0 + count n (λ i. X (suc i))
+unfolding count
+count-low zero X = refl
+count-low (suc n) X = omega (arith, count-low n X)
+
+-- how many digits are set
+pub ones-count : (k w : ℕ) → w < 2 ^ k → ones w ≡ count k (members w)
+unfolding count ones onesIn
+ones-count zero w h = ap ones (lt-one h)
+ones-count (suc k) w h =
+    ones-step w
+    ∙ ap₂ _+_ (sym (bit-zero w) ∙ bit-member w 0)
+    (ones-count k (w / 2) (omega (arith, pow-suc 2 k))
+    ∙ count-same k (members (w / 2)) (λ i. members w (suc i)) (λ i l. sym (half-members w i)))
+    ∙ sym (count-low k (members w))
+
+-- t is the lowest member, and is below k
+abbrev pub Lowest : ℕ → ℕ → ℕ → Type 0
+Lowest k w t = (t < k) × (members w t ≡ true) × ((i : ℕ) → i < t → members w i ≡ false)
+
+under-lowest : (w t : ℕ) → w % 2 ≡ 0 → ((i : ℕ) → i < t → members (w / 2) i ≡ false) → (i : ℕ) → i < suc t → members w i ≡ false
+under-lowest w t e h zero l = ap (λ (x : ℕ). eqb x 1) (bit-zero w ∙ e)
+under-lowest w t e h (suc i) l = half-members w i ∙ h i (omega arith)
+
+-- as many digits are below the lowest member as the word has zeros at its end
+pub trailing-lowest : (k w : ℕ) → w < 2 ^ k → (w ≡ 0 → ⊥) → Lowest k w (trailingZeros k w)
+unfolding trailingZeros
+trailing-lowest zero w h some = absurd (some (lt-one h))
+trailing-lowest (suc k) w h some = by (w % 2) refl (λ rest. trailing-lowest k (w / 2) (omega (arith, pow-suc 2 k)) rest)
+  where
+    by : (d : ℕ) → w % 2 ≡ d → ((w / 2 ≡ 0 → ⊥) → Lowest k (w / 2) (trailingZeros k (w / 2)))
+        → Lowest (suc k) w (under d (trailingZeros k (w / 2)))
+    by zero e rest =
+        let r = rest (λ (z : w / 2 ≡ 0). some (omega arith)) in
+        (omega (arith, r .0), half-members w (trailingZeros k (w / 2)) ∙ r .1, λ i l. under-lowest w (trailingZeros k (w / 2)) e (r .2) i l)
+    by (suc d) e rest = (omega arith, eq-eqb (bit w 0) 1 (bit-zero w ∙ omega arith), λ i l. absurd (omega arith))

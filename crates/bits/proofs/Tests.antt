@@ -1,14 +1,15 @@
 -- What a comparison of words says of their members: no member, a subset, the same bits under a mask.
-use Prim.Native.Nat.{ℕ, zero, suc, _^_, _<_}
+use Prim.Native.Nat.{ℕ, zero, suc, _^_, _<_, _≤_}
+use native.Mathlib.Omega.{arith}
 use native.Mathlib.Nat.{lt-of-le-of-lt}
 use mathlib.Core.Path.{_≡_, refl, sym, ap, _∙_}
 use mathlib.Core.Bool.{Bool, true, false, not, _&&_, _||_, Bool·beq}
-use lib.Dec.{eqb}
+use lib.Dec.{ltb, eqb}
 use lib.Pow.{pow-pos}
 use lib.Bits.{bitAnd, bitXor, and-le-l, and-le-r}
-use borrow.Author.Tests.{eqb-true, eq-eqb}
+use borrow.Author.Tests.{ltb-true, lt-ltb, eqb-true, eq-eqb}
 use Rattle.simulation.specs.Sets.{Set, anyBelow, allBelow}
-use Rattle.simulation.proofs.Sets.{same, all-make, all-take}
+use Rattle.simulation.proofs.Sets.{same, implies-make, implies-take, all-make, all-take}
 use Rattle.bits.specs.Word.{bit, members, within}
 use Rattle.bits.proofs.Words.{zero-members, same-below, and-members, xor-members}
 
@@ -90,3 +91,17 @@ masked k m v s h =
     (λ i.
     ap not (and-members (bitXor v s) m i ∙ ap (λ (t : Bool). t && members m i) (xor-members v s i))
     ∙ under (eqb (bit v i) (bit s i)) (members m i))
+
+-- the numbers below n are all in g
+pub within-below : (k n b g : ℕ) → n ≤ k → members b ≡ (λ i. ltb i n) → within k b g ≡ allBelow n (members g)
+unfolding within
+within-below k n b g l e =
+    same (allBelow k test) (allBelow n (members g))
+    (λ h. all-make n (members g) (λ i m. implies-take (members b i) (members g i) (all-take k test h i (omega arith)) (ap (λ (X : Set). X i) e ∙ lt-ltb i n m)))
+    (λ h.
+    all-make k test
+    (λ i m.
+    implies-make (members b i) (members g i) (λ d. all-take n (members g) h i (ltb-true i n (sym (ap (λ (X : Set). X i) e) ∙ d)))))
+  where
+    test : Set
+    test i = not (members b i) || members g i

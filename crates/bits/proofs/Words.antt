@@ -1,12 +1,12 @@
 -- The laws of a word as the set of its members: bounds, equality, operations, and the word of a set.
 use Prim.Native.Nat.{ℕ, zero, suc, _+_, _-_, _^_, _≤_, _<_, zero-le, min, max}
-use native.Mathlib.Nat.{pow-suc, zero-add, one-mul, le-refl, lt-of-lt-of-le}
+use native.Mathlib.Nat.{pow-suc, zero-add, sub-zero, one-mul, le-refl, lt-of-lt-of-le}
 use native.Mathlib.Omega.{arith}
 use mathlib.Core.Path.{_≡_, refl, sym, ap, ap₂, subst, fun-ext, _∙_}
 use mathlib.Core.Logic.{⊎-elim}
 use mathlib.Core.Bool.{Bool, true, false, not, _&&_, _||_, cond, and-true, and-false, or-false}
 use lib.Dec.{ltb, eqb}
-use lib.Pow.{pow-mono, pow-lt, ones-sub-lt}
+use lib.Pow.{pow-pos, pow-mono, pow-lt, ones-sub-lt}
 use lib.Bits.{bitAnd, bitOr, bitXor, differ, or-shifted}
 use borrow.Author.Tests.{eqb-true, eqb-false, eq-eqb, ltb-true, ltb-false, lt-ltb, le-ltb}
 use Rattle.simulation.specs.Sets.{Set, In, union, minus, also, without}
@@ -118,6 +118,16 @@ not-members k a h i =
     flip true false e = refl
     flip false true e = refl
     flip false false e = absurd (omega arith)
+
+-- all the numbers below k
+pub full-members : (k : ℕ) → members (2 ^ k - 1) ≡ (λ i. ltb i k)
+full-members k =
+    fun-ext
+    (λ i.
+    ap (λ (w : ℕ). members w i) (sym (sub-zero (2 ^ k - 1)))
+    ∙ not-members k 0 (pow-pos k) i
+    ∙ ap (λ (t : Bool). ltb i k && not t) (zero-members i)
+    ∙ and-true (ltb i k))
 
 pub andnot-members : (k a b : ℕ) → a < 2 ^ k → b < 2 ^ k → members (bitAnd a (2 ^ k - 1 - b)) ≡ minus (members a) (members b)
 andnot-members k a b ha hb =

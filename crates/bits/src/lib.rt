@@ -1,8 +1,10 @@
 // Sets of the numbers 0 to 31, each held in a word: bit i is 1 where i is a member.
 ghost use mathlib.Core.Path.{_≡_};
-ghost use mathlib.Core.Bool.{not};
-ghost use Prim.Native.Nat.{_^_, _<_};
-ghost use Rattle.simulation.specs.Sets.{also, without, union, minus, anyBelow};
+ghost use mathlib.Core.Bool.{true, false, not};
+ghost use Prim.Native.Nat.{ℕ, _-_, _^_, _<_, _≤_};
+ghost use lib.Dec.{ltb};
+ghost use lib.ListN.{length, getD};
+ghost use Rattle.simulation.specs.Sets.{also, without, union, minus, anyBelow, count};
 ghost use Rattle.bits.specs.Word.{members, within};
 
 // Whether i is a member.
@@ -63,4 +65,40 @@ pub fn empty(word: u32) -> bool
     ensures { λ r. ⌜ r ≡ not (anyBelow 32 (members word)) ⌝ }
 {
     word == 0
+}
+
+// The lowest member of a set that has one.
+pub fn lowest(word: u32) -> u32
+    requires { ⌜ (word ≡ 0 → ⊥) ⌝ }
+    ensures { λ r. ⌜ (r < 32) × (members word r ≡ true) × ((i : ℕ) → i < r → members word i ≡ false) ⌝ }
+{
+    u32::trailing_zeros(word)
+}
+
+// How many members there are.
+pub fn size(word: u32) -> u32
+    ensures { λ r. ⌜ r ≡ count 32 (members word) ⌝ }
+{
+    u32::count_ones(word)
+}
+
+// The numbers below n.
+pub fn below(n: u32) -> u32
+    requires { ⌜ n ≤ 32 ⌝ }
+    ensures { λ r. ⌜ (r ≡ 2 ^ n - 1) × (members r ≡ (λ i. ltb i n)) ⌝ }
+{
+    ((1u64 << n) - 1) as u32
+}
+
+// The members of all the words.
+pub fn gathered(words: &[u32]) -> u32
+    ensures { λ r. ⌜ members r ≡ (λ i. anyBelow (length (now (words .entry))) (λ k. members (getD (now (words .entry)) k 0) i)) ⌝ }
+{
+    let mut all = 0;
+    let mut k = 0;
+    while k < words.len() {
+        all = all | words[k];
+        k += 1;
+    }
+    all
 }

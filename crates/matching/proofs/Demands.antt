@@ -11,16 +11,17 @@ use Rattle.session.specs.Limits.{fixedSize}
 use Rattle.session.specs.Trigger.{Trigger, Graph, Marks}
 use Rattle.session.specs.Layout.{image, marksOf}
 use Rattle.session.proofs.Decoded.{marks-image}
+use Rattle.listing.specs.Changes.{changes}
+use Rattle.listing.proofs.Lists.{changes-none}
 use Rattle.matching.specs.declared.Answer.{Answer}
 use Rattle.matching.specs.Standing.{stands, fires}
-use Rattle.matching.specs.Changes.{changes}
 use Rattle.matching.specs.Answers.{Outcome, Summary, accepted, refused, outcome, told, changesTold, firesTold, handedBack}
 use Rattle.matching.specs.Rules.{Kind, insertion, deletion, Given, givenTrigger, givenGraph, edited, verdict, loadRules, editRules}
 use Rattle.matching.specs.Promises.{Untouched, Loaded, Edited}
 use Rattle.matching.specs.Model.{Model, begun, Edit, modelRules, step}
 use Rattle.matching.specs.Demands.{Judged, Answered, Demand1, Demand2, Call, Run, ended, called, editOf, Faithful, Held, Kept, Follows, Demand3}
 use Rattle.matching.proofs.Stands.{stands-simulates, stands-greatest, stands-inside, fires-iff}
-use Rattle.matching.proofs.Changes.{changes-none, handed-back, handed-none}
+use Rattle.matching.proofs.Handed.{handed-back, handed-none}
 use Rattle.matching.proofs.Verdicts.{accepts-or, verdict-lacks}
 use Rattle.matching.proofs.Loads.{fresh-graph, fresh-accepted}
 use Rattle.matching.proofs.Edits.{edited-changes, edited-chain}

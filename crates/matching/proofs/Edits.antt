@@ -11,8 +11,8 @@ use Rattle.simulation.proofs.Sets.{clash, and-l, and-r}
 use Rattle.session.specs.Limits.{maxEdges}
 use Rattle.session.specs.Trigger.{Trigger, Graph, Marks, nodes, edge}
 use Rattle.session.proofs.Valid.{GraphFacts, edge-insert, edge-remove, graph-insert, graph-remove}
+use Rattle.listing.specs.Changes.{changes}
 use Rattle.matching.specs.Standing.{stands}
-use Rattle.matching.specs.Changes.{changes}
 use Rattle.matching.specs.Rules.{Kind, insertion, deletion, edited, graphRules, verdict}
 use Rattle.matching.specs.Demands.{Chain, holding}
 use Rattle.matching.proofs.Verdicts.{verdict-pass}

@@ -2,11 +2,15 @@
 pub mod Worked
 pub mod Stands
 pub mod Trials
-pub mod Changes
+pub mod Handed
 pub mod Chains
 pub mod Verdicts
-pub mod Orders
+pub mod Given
 pub mod Loads
 pub mod Edits
 pub mod Steps
 pub mod Demands
+pub mod Solving
+pub mod Sections
+pub mod Finished
+pub mod Asked

@@ -21,7 +21,7 @@ use Rattle.session.proofs.Tables.{length-table, getD-table, table-same, table-o
 use Rattle.session.proofs.Valid.{TriggerFacts, GraphFacts}
 use Rattle.matching.specs.Rules.{verdict, Given, givenTrigger, givenGraph, precedes, loadRules}
 use Rattle.matching.specs.Model.{Model, freshly}
-use Rattle.matching.proofs.Verdicts.{verdict-pass, verdict-none}
+use Rattle.matching.proofs.Verdicts.{verdict-skip, verdict-pass, verdict-none}
 
 or-false-l : (a b : Bool) → (a || b) ≡ false → a ≡ false
 or-false-l true b h = h
@@ -126,6 +126,16 @@ module _ (memory room : ℕ) (x : Given) (ok : verdict (loadRules memory room x)
       positive : (k : ℕ) → (k ≡ 0 → ⊥) → 1 ≤ k
       positive k ne = omega arith
 
+  pub load-counts : (fixedSize ≤ memory) × (length (x .masks) ≤ maxStates) × (length (x .samples) ≤ maxNodes) × (length (x .starts) ≤ maxEdges)
+  load-counts = (
+    load-long,
+    ltb-false maxStates n
+        (or-false-r (eqb n 0) (ltb maxStates n)
+        (or-false-l (eqb n 0 || ltb maxStates n) (not (eqb (length (x .values)) n) || not (eqb (length (x .links)) n)) (passed .states-fit))),
+    ltb-false maxNodes (length (x .samples)) (passed .nodes-fit),
+    ltb-false maxEdges e (or-false-l (ltb maxEdges e) (not (eqb (length (x .ends)) e)) (passed .edges-fit)),
+  )
+
   abbrev code : ℕ → ℕ
   code k = edgeNumber (getD (x .starts) k 0) (getD (x .ends) k 0)
 
@@ -154,6 +164,22 @@ module _ (memory room : ℕ) (x : Given) (ok : verdict (loadRules memory room x)
       let b = end-inside k l in
       let few = few-nodes in
       (omega arith, omega arith)
+
+  -- what writing the edges needs
+  pub load-edges : (below maxNodes (x .starts) ≡ true) × (below maxNodes (x .ends) ≡ true) × (length (x .ends) ≡ length (x .starts))
+  load-edges =
+      let same : length (x .ends) ≡ e =
+      eqb-true (length (x .ends)) e (not-false (eqb (length (x .ends)) e) (or-false-r (ltb maxEdges e) (not (eqb (length (x .ends)) e)) (passed .edges-fit))) in (
+        below-make maxNodes (x .starts) (λ k l. omega (arith, start-inside k l, few-nodes)),
+        below-make maxNodes (x .ends) (λ k l. omega (arith, end-inside k (omega arith), few-nodes)),
+        same,
+      )
+
+  -- a load that breaks no rule breaks none in any room that is long enough
+  pub load-elsewhere : (room' : ℕ) → maxChanges ≤ room' → verdict (loadRules memory room' x) ≡ 0
+  load-elsewhere room' wide =
+      verdict-skip 3 (ltb memory fixedSize || ltb room' maxChanges) _ (or-false (le-ltb memory fixedSize load-long) (le-ltb room' maxChanges wide))
+      ∙ verdict-pass 3 (ltb memory fixedSize || ltb room maxChanges) _ (omega arith) ok .1
 
   codes-rise : Rising (table e code)
   unfolding ascends

@@ -15,9 +15,9 @@ use Rattle.bits.specs.Word.{word}
 use Rattle.session.specs.Limits.{maxEdges}
 use Rattle.session.specs.Trigger.{Trigger, Graph, nodes, linked, edge, edgeNumber, admits, agrees}
 use Rattle.session.specs.Layout.{table, markWord, below}
+use Rattle.listing.specs.Changes.{joinTo, changes}
+use Rattle.listing.specs.Order.{fold, visit, order}
 use Rattle.matching.specs.Standing.{stands, fires, size, pairsOf, trialSet}
-use Rattle.matching.specs.Changes.{joinTo, changes}
-use Rattle.matching.specs.Order.{fold, visit, order}
 use Rattle.matching.specs.Rules.{Kind, insertion, deletion, edited, graphRules, verdict, Given, loadRules}
 use Rattle.matching.specs.Promises.{trialCount}
 

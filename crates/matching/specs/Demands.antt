@@ -9,12 +9,12 @@ use lib.ListN.{length, drop}
 use Rattle.session.specs.Limits.{maxChanges, fixedSize}
 use Rattle.session.specs.Trigger.{Trigger, Graph, Marks, states, linked, edge}
 use Rattle.session.specs.Layout.{image, validTrigger, validGraph, triggerOf, graphOf, marksOf}
+use Rattle.listing.specs.Changes.{changes}
 use Rattle.matching.specs.declared.Answer.{Answer}
 use Rattle.matching.specs.declared.Standing.{Standing}
 use Rattle.matching.specs.declared.FiringAnswer.{FiringAnswer}
 use Rattle.matching.specs.declared.StateOrder.{StateOrder}
 use Rattle.matching.specs.Standing.{Simulation, stands, fires}
-use Rattle.matching.specs.Changes.{changes}
 use Rattle.matching.specs.Answers.{Outcome, outcome, refused, firesTold, told, toldStanding, toldFiring, toldOrder, handedBack}
 use Rattle.matching.specs.Rules.{Kind, insertion, deletion, Given, givenTrigger, givenGraph, verdict, loadRules, editRules, questionRules, pairRules}
 use Rattle.matching.specs.Promises.{Loaded, Edited, Matches, Fires, Ordered}

@@ -1,9 +1,8 @@
 -- What the engine means and promises.
 pub mod Standing
-pub mod Changes
-pub mod Order
 pub mod Answers
 pub mod Rules
 pub mod Promises
 pub mod Model
 pub mod Demands
+pub mod Solved

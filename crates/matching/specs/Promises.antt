@@ -10,13 +10,13 @@ use Rattle.simulation.specs.Sets.{minus}
 use Rattle.session.specs.Limits.{maxStates, fixedSize, wordBits}
 use Rattle.session.specs.Trigger.{Trigger, Graph, Marks, states, admits}
 use Rattle.session.specs.Layout.{section, below, image, triggerOf, graphOf, marksOf, validMarks}
+use Rattle.listing.specs.Changes.{changes}
+use Rattle.listing.specs.Order.{order}
 use Rattle.matching.specs.declared.Answer.{Answer}
 use Rattle.matching.specs.declared.Standing.{Standing}
 use Rattle.matching.specs.declared.FiringAnswer.{FiringAnswer}
 use Rattle.matching.specs.declared.StateOrder.{StateOrder}
 use Rattle.matching.specs.Standing.{stands, fires, size, pairsOf, trialSet}
-use Rattle.matching.specs.Changes.{changes}
-use Rattle.matching.specs.Order.{order}
 use Rattle.matching.specs.Answers.{accepted, refused, outcome, told, toldStanding, toldFiring, toldOrder}
 use Rattle.matching.specs.Rules.{
   Given,

@@ -31,6 +31,10 @@ pub record Given : Type 0 where
   pub starts : List ℕ
   pub ends : List ℕ
 
+abbrev pub given : List ℕ → List ℕ → List ℕ → List ℕ → List ℕ → List ℕ → Given
+given masks values links samples starts ends =
+    record { masks = masks; values = values; links = links; samples = samples; starts = starts; ends = ends }
+
 abbrev pub givenTrigger : Given → Trigger
 givenTrigger x = record { masks = x .masks; values = x .values; links = x .links }
 

@@ -1,4 +1,17 @@
-// The types in which the engine answers. What each call promises is defined in specs/.
+// The engine's calls, and the types in which they answer. What each call promises is defined in specs/.
+mod answers;
+mod loading;
+mod questions;
+mod solve;
+
+pub use answers::changed_part;
+pub use listing::changes::begins;
+pub use listing::changes::pair_of;
+pub use listing::changes::size_of;
+pub use loading::load;
+pub use questions::fires;
+pub use questions::matches;
+pub use questions::order;
 
 // Whether every state stands at some node.
 pub enum Firing {

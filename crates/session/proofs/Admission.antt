@@ -1,29 +1,37 @@
--- When a state admits a node: by one masked comparison of words; no mask, and what the mask leaves out.
+-- When a state admits a node: by one masked comparison of words; no mask, what the mask leaves out, and marks that are not admitted.
 use Prim.Native.Nat.{ℕ, _^_, _<_}
-use mathlib.Core.Path.{_≡_, sym, ap}
+use mathlib.Core.Path.{_≡_, refl, sym, ap, _∙_}
 use mathlib.Core.Logic.{⊎-elim}
-use mathlib.Core.Bool.{true, false, not, _||_}
+use mathlib.Core.Bool.{Bool, true, false, not, _&&_, _||_}
+use mathlib.Core.List.{List}
 use lib.Bits.{bitAnd, bitXor}
 use lib.Dec.{eqb}
-use lib.ListN.{getD}
+use lib.ListN.{length, getD}
 use lib.Pow.{pow-pos}
+use Rattle.simulation.specs.Sets.{Set}
 use Rattle.simulation.proofs.Sets.{split, or-l, not-make, all-make}
 use Rattle.simulation.proofs.Edges.{all-same}
 use Rattle.bits.specs.Word.{bit, members}
 use Rattle.bits.proofs.Words.{zero-members}
-use Rattle.bits.proofs.Tests.{masked}
+use Rattle.bits.proofs.Tests.{not-any, masked}
+use Rattle.bits.proofs.Gathers.{gathers}
 use Rattle.session.specs.Limits.{wordBits}
 use Rattle.session.specs.Trigger.{Trigger, Graph, agrees, admits}
+use Rattle.session.specs.Tests.{sparse}
 use Rattle.session.proofs.Tables.{below-at}
 use Rattle.session.proofs.Valid.{TriggerFacts}
 
 -- (value ^ sample) & mask is zero
+pub agrees-masked : (k mask value sample : ℕ) → mask < 2 ^ k → eqb (bitAnd (bitXor value sample) mask) 0 ≡ agrees k mask value sample
+unfolding agrees
+agrees-masked = masked
+
 pub admits-masked : (t : Trigger) (g : Graph) → TriggerFacts t → (u v : ℕ)
     → admits t g u v ≡ eqb (bitAnd (bitXor (getD (t .values) u 0) (getD (g .samples) v 0)) (getD (t .masks) u 0)) 0
-unfolding admits agrees
+unfolding admits
 admits-masked t g f u v =
     sym
-    (masked wordBits (getD (t .masks) u 0) (getD (t .values) u 0) (getD (g .samples) v 0)
+    (agrees-masked wordBits (getD (t .masks) u 0) (getD (t .values) u 0) (getD (g .samples) v 0)
     (below-at (2 ^ wordBits) (t .masks) (f .masks-fit) (pow-pos wordBits) u))
 
 -- "A mask of zero admits every node"
@@ -44,3 +52,25 @@ agrees-outside k mask value value' sample h =
     (λ (e : members mask i ≡ true). ap (λ (x : ℕ). not (members mask i) || eqb x (bit sample i)) (h i l e))
     (λ (e : members mask i ≡ false). rw e)
     (split (members mask i)))
+
+-- ---- marks that are not admitted
+
+-- a mark of u at v, where the mask and the value do not admit the sample
+abbrev pub stray : List ℕ → List ℕ → ℕ → ℕ → ℕ → Set
+stray samples marks mask value v u = members (getD marks v 0) u && not (agrees wordBits mask value (getD samples v 0))
+
+not-and : (a b : Bool) → not (a && not b) ≡ (not a || b)
+not-and true true = refl
+not-and true false = refl
+not-and false b = refl
+
+-- a state has none just where its marks are admitted
+pub sparse-stray : (samples marks : List ℕ) (mask value all u : ℕ) → members all ≡ gathers (length marks) (stray samples marks mask value)
+    → not (members all u) ≡ sparse samples marks mask value u
+unfolding sparse
+sparse-stray samples marks mask value all u e =
+    ap (λ (X : Set). not (X u)) e
+    ∙ not-any (length marks) (λ v. stray samples marks mask value v u)
+    ∙ all-same (length marks) (λ v. not (stray samples marks mask value v u))
+    (λ v. not (members (getD marks v 0) u) || agrees wordBits mask value (getD samples v 0))
+    (λ v l. not-and (members (getD marks v 0) u) (agrees wordBits mask value (getD samples v 0)))

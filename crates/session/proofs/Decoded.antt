@@ -13,7 +13,7 @@ use Rattle.simulation.specs.Sets.{Set, allBelow}
 use Rattle.simulation.proofs.Sets.{same, and-make, and-l, and-r, all-make, all-take}
 use Rattle.bits.specs.Word.{members}
 use Rattle.bits.proofs.Words.{word-members}
-use Rattle.session.specs.Limits.{maxNodes, masksAt, valuesAt, linksAt, samplesAt, edgesAt, marksAt, fixedSize}
+use Rattle.session.specs.Limits.{maxStates, maxNodes, maxEdges, masksAt, valuesAt, linksAt, samplesAt, edgesAt, marksAt, fixedSize}
 use Rattle.session.specs.Trigger.{Trigger, Graph, Marks, states, nodes}
 use Rattle.session.specs.Layout.{
   markWord,
@@ -248,3 +248,22 @@ same-image t t' g g' m m' f f' k k' i i' = (
       ),
   λ w. ap (λ (x : Trigger). image x g m) (w .0) ∙ ap (λ (x : Graph). image t' x m) (w .1) ∙ ap (image t' g') (w .2),
 )
+
+-- the length and the counts of a memory in layout
+pub record Bounded (xs : List ℕ) : Type 0 where
+  pub long : fixedSize ≤ length xs
+  pub some-state : 1 ≤ getD xs 0 0
+  pub few-states : getD xs 0 0 ≤ maxStates
+  pub few-nodes : getD xs 1 0 ≤ maxNodes
+  pub few-edges : getD xs 2 0 ≤ maxEdges
+
+pub layout-limits : (xs : List ℕ) → inLayout xs ≡ true → Bounded xs
+layout-limits xs h =
+    let f = layout-facts xs h in
+    record {
+      long = f .long;
+      some-state = rw (f .counts .0) (f .trigger .some);
+      few-states = rw (f .counts .0) (f .trigger .few);
+      few-nodes = rw (f .counts .1) (f .graph .few);
+      few-edges = rw (f .counts .2) (f .graph .few-edges);
+    }

@@ -4,3 +4,7 @@ pub mod Valid
 pub mod Image
 pub mod Decoded
 pub mod Admission
+pub mod Tested
+pub mod Fills
+pub mod Folds
+pub mod Stores

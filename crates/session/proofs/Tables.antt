@@ -1,16 +1,22 @@
 -- Tables, the sections of a session, and lists of small numbers.
-use Prim.Native.Nat.{ℕ, zero, suc, _<_, _≤_}
+use Prim.Native.Nat.{ℕ, zero, suc, _+_, _-_, _^_, _<_, _≤_}
+use native.Mathlib.Nat.{add-zero, add-suc}
 use native.Mathlib.Omega.{arith}
-use mathlib.Core.Path.{_≡_, refl, ap, _∙_}
+use mathlib.Core.Path.{_≡_, refl, sym, ap, ap₂, _∙_}
 use mathlib.Core.Logic.{⊎-elim}
-use mathlib.Core.Bool.{true, false}
+use mathlib.Core.Bool.{Bool, true, false, _&&_, cond, and-true, and-false}
 use mathlib.Core.List.{List, [], _∷_}
-use lib.Dec.{ltb}
-use lib.ListN.{length, getD, take, length-take, List·getD-eq-default}
-use lib.Seq.{getD-take, ext-getD}
-use borrow.Author.Tests.{ltb-true, ltb-false, lt-ltb}
+use lib.Dec.{ltb, eqb}
+use lib.ListN.{length, getD, take, drop, length-take, length-drop, List·getD-eq-default}
+use lib.Seq.{length-take-le, getD-take, getD-drop, ext-getD}
+use borrow.Author.Tests.{ltb-true, ltb-false, lt-ltb, le-ltb}
+use Rattle.simulation.specs.Sets.{Set, allBelow}
 use Rattle.simulation.proofs.Sets.{split, all-make, all-take}
+use Rattle.simulation.proofs.Edges.{all-same}
+use Rattle.bits.specs.Word.{members, within}
+use Rattle.bits.proofs.Gathers.{gathers, gathered-below, gathered-zero}
 use Rattle.session.specs.Layout.{table, section, below}
+use Rattle.session.specs.Tests.{fits}
 
 -- ---- tables: length, entries, and that these decide a table
 
@@ -78,3 +84,51 @@ below-at n xs h some i =
     (λ (e : ltb i (length xs) ≡ true). below-take n xs h i (ltb-true i (length xs) e))
     (λ (e : ltb i (length xs) ≡ false). rw (List·getD-eq-default xs 0 (ltb-false i (length xs) e)) some)
     (split (ltb i (length xs)))
+
+-- ---- a section whose used places hold small numbers, and the others zeros
+
+and-swap : (a b c : Bool) → (a && (b && c)) ≡ (b && (a && c))
+and-swap true b c = refl
+and-swap false b c = sym (and-false b)
+
+all-add : (n m : ℕ) (P : Set) → allBelow (m + n) P ≡ (allBelow m P && allBelow n (λ j. P (m + j)))
+unfolding allBelow
+all-add zero m P = rw add-zero (sym (and-true (allBelow m P)))
+all-add (suc n) m P =
+    rw (add-suc, all-add n m P) (and-swap (P (m + n)) (allBelow m P) (allBelow n (λ j. P (m + j))))
+
+-- the two parts are tested by themselves
+fits-parts : (k used : ℕ) (xs : List ℕ) → used ≤ length xs
+    → fits k used xs
+    ≡ (allBelow (length (take used xs)) (λ i. ltb (getD (take used xs) i 0) (2 ^ k))
+    && allBelow (length (drop used xs)) (λ j. ltb (getD (drop used xs) j 0) 1))
+unfolding fits
+fits-parts k used xs h =
+    ap (λ (n : ℕ). allBelow n fit) size
+    ∙ all-add (length (drop used xs)) (length (take used xs)) fit
+    ∙ ap₂ _&&_
+    (all-same (length (take used xs)) fit (λ i. ltb (getD (take used xs) i 0) (2 ^ k)) low)
+    (all-same (length (drop used xs)) (λ j. fit (length (take used xs) + j)) (λ j. ltb (getD (drop used xs) j 0) 1) high)
+  where
+    fit : Set
+    fit i = ltb (getD xs i 0) (cond (ltb i used) (2 ^ k) 1)
+
+    front : length (take used xs) ≡ used
+    front = length-take-le used xs h
+
+    size : length xs ≡ length (take used xs) + length (drop used xs)
+    size = omega (arith, front, length-drop used xs)
+
+    low : (i : ℕ) → i < length (take used xs) → fit i ≡ ltb (getD (take used xs) i 0) (2 ^ k)
+    low i l = let m : i < used = omega (arith, front) in rw (lt-ltb i used m, getD-take used xs i 0 m)
+
+    high : (j : ℕ) → j < length (drop used xs) → fit (length (take used xs) + j) ≡ ltb (getD (drop used xs) j 0) 1
+    high j l = rw (front, le-ltb (used + j) used (omega arith), getD-drop used xs j 0)
+
+-- by the members of the words of each part
+pub fits-gathered : (n k used inside unused : ℕ) (xs : List ℕ) → used ≤ length xs → inside < 2 ^ n
+    → members inside ≡ gathers (length (take used xs)) (λ i. members (getD (take used xs) i 0))
+    → members unused ≡ gathers (length (drop used xs)) (λ j. members (getD (drop used xs) j 0))
+    → (within n inside (2 ^ k - 1) && eqb unused 0) ≡ fits k used xs
+fits-gathered n k used inside unused xs h l e d =
+    ap₂ _&&_ (gathered-below inside (take used xs) e n k l) (gathered-zero unused (drop used xs) d) ∙ sym (fits-parts k used xs h)

@@ -2,3 +2,4 @@
 pub mod Limits
 pub mod Trigger
 pub mod Layout
+pub mod Tests

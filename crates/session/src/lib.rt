@@ -1,1 +1,279 @@
-// The session in lent memory: its limits, layout and admission are defined in specs/.
+// The session in lent memory: its sections filled, and the test of its layout.
+ghost use mathlib.Core.Path.{_≡_};
+ghost use mathlib.Core.Bool.{true, not, _&&_};
+ghost use Prim.Native.Nat.{ℕ, _+_, _^_, _<_, _≤_};
+ghost use lib.ListN.{length, getD};
+ghost use Rattle.simulation.specs.Sets.{allBelow, anyBelow};
+ghost use Rattle.simulation.specs.Ordered.{ascends, from};
+ghost use Rattle.bits.specs.Word.{members};
+ghost use Rattle.session.specs.Trigger.{agrees};
+ghost use Rattle.session.specs.Layout.{section, part, below, inLayout};
+ghost use Rattle.session.specs.Tests.{fits, allNamed, sparse, numbered, triggerTest, graphTest, marksTest};
+
+pub const MAX_STATES: usize = 16;
+
+pub const MAX_NODES: usize = 512;
+
+pub const MAX_EDGES: usize = 2048;
+
+pub const MAX_CHANGES: usize = 8192;
+
+pub const MASKS_AT: usize = 3;
+
+pub const VALUES_AT: usize = 19;
+
+pub const LINKS_AT: usize = 35;
+
+pub const SAMPLES_AT: usize = 51;
+
+pub const EDGES_AT: usize = 563;
+
+pub const MARKS_AT: usize = 2611;
+
+pub const FIXED_SIZE: usize = 3123;
+
+// The word at i, and 0 past the end.
+pub fn half_at(source: &[u16], i: usize) -> u32
+    ensures { λ r. ⌜ r ≡ getD (now (source .entry)) i 0 ⌝ }
+{
+    if i < source.len() {
+        source[i] as u32
+    } else {
+        0
+    }
+}
+
+pub fn word_at(source: &[u32], i: usize) -> u32
+    ensures { λ r. ⌜ r ≡ getD (now (source .entry)) i 0 ⌝ }
+{
+    if i < source.len() { source[i] } else { 0 }
+}
+
+// A section is filled with the words of the source, and zeros after them.
+pub fn fill_halves(place: &mut [u32], source: &[u16])
+    ensures { λ r. ⌜ now (place .exit) ≡ section (length (now (place .entry))) (now (source .entry)) ⌝ }
+{
+    let mut i = 0;
+    while i < place.len() {
+        place[i] = half_at(source, i);
+        i += 1;
+    }
+}
+
+pub fn fill_words(place: &mut [u32], source: &[u32])
+    ensures { λ r. ⌜ now (place .exit) ≡ section (length (now (place .entry))) (now (source .entry)) ⌝ }
+{
+    let mut i = 0;
+    while i < place.len() {
+        place[i] = word_at(source, i);
+        i += 1;
+    }
+}
+
+// The number of the edge k, and 0 past the end.
+pub fn edge_at(starts: &[u32], ends: &[u32], k: usize) -> u32
+    requires { ⌜ (below 512 (now starts) ≡ true) × (below 512 (now ends) ≡ true) ⌝ }
+    requires { ⌜ length (now ends) ≡ length (now starts) ⌝ }
+    ensures { λ r. ⌜ r ≡ getD (numbered (now (starts .entry)) (now (ends .entry))) k 0 ⌝ }
+{
+    if k < starts.len() {
+        starts[k] * 512 + ends[k]
+    } else {
+        0
+    }
+}
+
+pub fn fill_edges(place: &mut [u32], starts: &[u32], ends: &[u32])
+    requires { ⌜ (below 512 (now starts) ≡ true) × (below 512 (now ends) ≡ true) ⌝ }
+    requires { ⌜ length (now ends) ≡ length (now starts) ⌝ }
+    ensures { λ r. ⌜ now (place .exit) ≡ section (length (now (place .entry))) (numbered (now (starts .entry)) (now (ends .entry))) ⌝ }
+{
+    let mut i = 0;
+    while i < place.len() {
+        place[i] = edge_at(starts, ends, i);
+        i += 1;
+    }
+}
+
+// Whether each word is below the limit.
+pub fn all_below(words: &[u32], limit: u32) -> bool
+    ensures { λ r. ⌜ r ≡ below limit (now (words .entry)) ⌝ }
+{
+    let mut faults: u32 = 0;
+    let mut k = 0;
+    while k < words.len() {
+        if limit <= words[k] {
+            faults = 1;
+        }
+        k += 1;
+    }
+    faults == 0
+}
+
+// Whether a section has words below 2 to the k in its used places, and zeros in the others.
+pub fn section_fits(place: &[u32], used: usize, k: u32) -> bool
+    requires { ⌜ (used ≤ length (now place)) × (k ≤ 32) ⌝ }
+    ensures { λ r. ⌜ r ≡ fits k used (now (place .entry)) ⌝ }
+{
+    let inside = bits::gathered(&place[..used]);
+    let unused = bits::gathered(&place[used..]);
+    bits::subset(inside, bits::below(k)) && unused == 0
+}
+
+// Whether each edge joins two of the nodes.
+pub fn all_named(edges: &[u32], nodes: u32) -> bool
+    ensures { λ r. ⌜ r ≡ allNamed nodes (now (edges .entry)) ⌝ }
+{
+    let mut faults: u32 = 0;
+    let mut k = 0;
+    while k < edges.len() {
+        let edge = edges[k];
+        if nodes <= edge / 512 {
+            faults = 1;
+        }
+        if nodes <= edge % 512 {
+            faults = 1;
+        }
+        k += 1;
+    }
+    faults == 0
+}
+
+// Whether each edge is below the next.
+pub fn all_ascend(edges: &[u32]) -> bool
+    ensures { λ r. ⌜ r ≡ ascends (now (edges .entry)) ⌝ }
+{
+    let mut faults: u32 = 0;
+    let mut k = 1;
+    while k < edges.len() {
+        if edges[k] <= edges[k - 1] {
+            faults = 1;
+        }
+        k += 1;
+    }
+    faults == 0
+}
+
+// The marks at nodes whose sample the mask and the value do not admit.
+pub fn strays(samples: &[u32], marks: &[u32], mask: u32, value: u32) -> u32
+    requires { ⌜ (length (now samples) ≡ length (now marks)) × (mask < 2 ^ 16) ⌝ }
+    ensures { λ r. ⌜ members r ≡ (λ u. anyBelow (length (now (marks .entry))) (λ v. members (getD (now (marks .entry)) v 0) u && not (agrees 16 mask value (getD (now (samples .entry)) v 0)))) ⌝ }
+{
+    let mut all = 0;
+    let mut v = 0;
+    while v < marks.len() {
+        if (value ^ samples[v]) & mask != 0 {
+            all = all | marks[v];
+        }
+        v += 1;
+    }
+    all
+}
+
+// Whether each mark is at a node that its state admits.
+pub fn all_admitted(masks: &[u32], values: &[u32], samples: &[u32], marks: &[u32]) -> bool
+    requires { ⌜ (length (now samples) ≡ length (now marks)) × (length (now values) ≡ length (now masks)) × (length (now masks) ≤ 32) ⌝ }
+    requires { ⌜ below (2 ^ 16) (now masks) ≡ true ⌝ }
+    ensures { λ r. ⌜ r ≡ allBelow (length (now (masks .entry))) (λ u. sparse (now (samples .entry)) (now (marks .entry)) (getD (now (masks .entry)) u 0) (getD (now (values .entry)) u 0) u) ⌝ }
+{
+    let mut faults: u32 = 0;
+    let mut u = 0;
+    while u < masks.len() {
+        let stray = strays(samples, marks, masks[u], values[u]);
+        if bits::has(stray, u as u32) {
+            faults = 1;
+        }
+        u += 1;
+    }
+    faults == 0
+}
+
+// The index of the first edge that starts at v or after it, by halving.
+pub fn first_edge(edges: &[u32], v: u32) -> usize
+    requires { ⌜ (ascends (now edges) ≡ true) × (v ≤ 512) ⌝ }
+    ensures { λ r. ⌜ r ≡ from 512 (now (edges .entry)) v ⌝ }
+{
+    let code = v * 512;
+    let mut low = 0;
+    let mut high = edges.len();
+    while low < high {
+        let middle = low + (high - low) / 2;
+        if edges[middle] < code {
+            low = middle + 1;
+        } else {
+            high = middle;
+        }
+    }
+    low
+}
+
+// Whether the sections of the trigger fit.
+pub fn trigger_fits(session: &[u32], states: usize) -> bool
+    requires { ⌜ (3123 ≤ length (now session)) × (states ≤ 16) ⌝ }
+    ensures { λ r. ⌜ r ≡ triggerTest (now (session .entry)) states ⌝ }
+{
+    section_fits(&session[3..19], states, 16)
+        && (section_fits(&session[19..35], states, 16)
+            && section_fits(&session[35..51], states, states as u32))
+}
+
+// Whether the sections of the graph fit.
+pub fn graph_fits(session: &[u32], nodes: usize, edges: usize) -> bool
+    requires { ⌜ (3123 ≤ length (now session)) × (nodes ≤ 512) × (edges ≤ 2048) ⌝ }
+    ensures { λ r. ⌜ r ≡ graphTest (now (session .entry)) nodes edges ⌝ }
+{
+    let end = 563 + edges;
+    section_fits(&session[51..563], nodes, 16)
+        && (all_below(&session[end..2611], 1)
+            && (all_named(&session[563..end], nodes as u32) && all_ascend(&session[563..end])))
+}
+
+// Whether the marks fit.
+pub fn marks_fit(session: &[u32], states: usize, nodes: usize) -> bool
+    requires { ⌜ (3123 ≤ length (now session)) × (states ≤ 16) × (nodes ≤ 512) ⌝ }
+    requires { ⌜ below (2 ^ 16) (part (now session) 3 states) ≡ true ⌝ }
+    ensures { λ r. ⌜ r ≡ marksTest (now (session .entry)) states nodes ⌝ }
+{
+    let masks_end = 3 + states;
+    let values_end = 19 + states;
+    let samples_end = 51 + nodes;
+    let marks_end = 2611 + nodes;
+    section_fits(&session[2611..3123], nodes, states as u32)
+        && all_admitted(
+            &session[3..masks_end],
+            &session[19..values_end],
+            &session[51..samples_end],
+            &session[2611..marks_end],
+        )
+}
+
+// Whether a memory is in layout.
+pub fn in_layout(session: &[u32]) -> bool
+    ensures { λ r. ⌜ r ≡ inLayout (now (session .entry)) ⌝ }
+{
+    if session.len() < 3123 {
+        return false;
+    }
+    let states = session[0] as usize;
+    let nodes = session[1] as usize;
+    let edges = session[2] as usize;
+    if states == 0 {
+        return false;
+    }
+    if 16 < states {
+        return false;
+    }
+    if 512 < nodes {
+        return false;
+    }
+    if 2048 < edges {
+        return false;
+    }
+    if !trigger_fits(session, states) {
+        return false;
+    }
+    if !graph_fits(session, nodes, edges) {
+        return false;
+    }
+    marks_fit(session, states, nodes)
+}

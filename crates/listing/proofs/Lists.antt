@@ -1,23 +1,19 @@
--- The change list: it has the change of each pair whose mark differs and nothing else, ascends by size, and is handed back whole.
+-- The change list: it has the change of each pair whose mark differs and nothing else, and ascends by size.
 use Prim.Native.Nat.{ℕ, zero, suc, _+_, _*_, _/_, _%_, _<_, _≤_}
 use native.Mathlib.Nat.{div-add-mod', mod-lt, eq-or-lt-of-le, div-mul-le-self, le-div-iff-mul-le}
 use native.Mathlib.Omega.{arith}
 use mathlib.Core.Path.{_≡_, refl, sym, _∙_, ap, subst}
 use mathlib.Core.Logic.{_⊎_, inl, inr, ⊎-elim, _↔_}
 use mathlib.Core.Bool.{Bool, true, false}
-use mathlib.Core.List.{List, [], _++_, map, map-append, List·Memᴰ, List·Memᴰ·head, List·Memᴰ·not-nil, List·Memᴰ·append-cases, List·Memᴰ·eq-of-singleton, Memᴰ·append-left, Memᴰ·append-right}
+use mathlib.Core.List.{List, [], map, map-append, List·Memᴰ, List·Memᴰ·head, List·Memᴰ·not-nil, List·Memᴰ·append-cases, List·Memᴰ·eq-of-singleton, Memᴰ·append-left, Memᴰ·append-right}
 use lib.IntN.{ℤ, pos, negℤ, natAbs}
 use lib.ListN.{length, length-append}
-use lib.Seq.{take-append-seam}
-use borrow.Author.Tests.{le-leb}
 use Rattle.simulation.specs.Ordered.{elem}
 use Rattle.simulation.proofs.Ordered.{Rising, elem-take, rising-append, elem-append}
 use Rattle.simulation.proofs.Sets.{clash, or-take}
 use Rattle.simulation.proofs.Pattern.{pair-state, pair-node, pair-inside, state-inside, node-inside}
 use Rattle.session.specs.Trigger.{Trigger, Graph, Marks, states, nodes, pattern}
-use Rattle.matching.specs.declared.Answer.{Answer}
-use Rattle.matching.specs.Changes.{sizeOf, change, joinTo, changes}
-use Rattle.matching.specs.Answers.{told, changesTold, handedBack}
+use Rattle.listing.specs.Changes.{sizeOf, change, joinTo, changes}
 
 -- ---- one change
 
@@ -53,13 +49,13 @@ change-rising true false n = (λ y h. clash h refl, tt)
 change-rising true true n = tt
 change-rising false false n = tt
 
-change-short : (b c : Bool) (n : ℕ) → length (change b c n) ≤ 1
+pub change-short : (b c : Bool) (n : ℕ) → length (change b c n) ≤ 1
 change-short false true n = omega arith
 change-short true false n = omega arith
 change-short true true n = omega arith
 change-short false false n = omega arith
 
-change-none : (b : Bool) (n : ℕ) → change b b n ≡ []
+pub change-none : (b : Bool) (n : ℕ) → change b b n ≡ []
 change-none true n = refl
 change-none false n = refl
 
@@ -104,12 +100,12 @@ module _ (f : ℕ → List ℤ) where
       (rising-append (map natAbs (joinTo n f)) (map natAbs (f n)) (join-rising size h each n (λ p q l k. mono p q l (omega arith))) (each n)
       (λ x y i j. let r = join-sizes size h n x i in rw (r .2, h n y j) (mono (r .0) n (r .1) (omega arith))))
 
-  join-short : ((p : ℕ) → length (f p) ≤ 1) → (n : ℕ) → length (joinTo n f) ≤ n
+  pub join-short : ((p : ℕ) → length (f p) ≤ 1) → (n : ℕ) → length (joinTo n f) ≤ n
   unfolding joinTo
   join-short h zero = omega arith
   join-short h (suc n) = omega (arith, length-append (joinTo n f) (f n), join-short h n, h n)
 
-  join-none : ((p : ℕ) → f p ≡ []) → (n : ℕ) → joinTo n f ≡ []
+  pub join-none : ((p : ℕ) → f p ≡ []) → (n : ℕ) → joinTo n f ≡ []
   unfolding joinTo
   join-none h zero = refl
   join-none h (suc n) = rw (h n, join-none h n)
@@ -180,13 +176,3 @@ unfolding changes
 changes-none t g m =
     join-none (λ p. change (m (p % states t) (p / states t)) (m (p % states t) (p / states t)) (sizeOf (p % states t) (p / states t)))
     (λ p. change-none (m (p % states t) (p / states t)) (sizeOf (p % states t) (p / states t))) (nodes g * states t)
-
--- ---- what is handed back
-
-pub handed-back : (list rest : List ℤ) (r : Answer) → changesTold (told r) ≡ length list → handedBack (list ++ rest) r ≡ list
-unfolding handedBack
-handed-back list rest r e =
-    rw (e, le-leb (length list) (length (list ++ rest)) (omega (arith, length-append list rest))) (take-append-seam list rest)
-
-pub handed-none : (room : List ℤ) (r : Answer) → changesTold (told r) ≡ 0 → handedBack room r ≡ []
-handed-none room r e = handed-back [] room r e

@@ -9,10 +9,15 @@ use Rattle.session.specs.Trigger.{Trigger, Graph, Marks, states, nodes}
 abbrev pub sizeOf : ℕ → ℕ → ℕ
 sizeOf u v = v * 64 + (u + 1)
 
--- "positive for a pair that began to stand, negative for one that ceased": of a mark before and after, and a size
+-- "positive for a pair that began to stand, negative for one that ceased"
+abbrev pub signed : Bool → ℕ → ℤ
+signed true n = pos n
+signed false n = negℤ (pos n)
+
+-- of a mark before and after, and a size
 abbrev pub change : Bool → Bool → ℕ → List ℤ
-change false true n = pos n ∷ []
-change true false n = negℤ (pos n) ∷ []
+change false true n = signed true n ∷ []
+change true false n = signed false n ∷ []
 change true true n = []
 change false false n = []
 

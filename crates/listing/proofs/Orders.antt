@@ -17,7 +17,7 @@ use Rattle.simulation.proofs.Ordered.{elem-head, elem-tail, elem-take, elem-app
 use Rattle.simulation.proofs.Loops.{count-same}
 use Rattle.bits.proofs.Counts.{count-none, count-also}
 use Rattle.session.specs.Trigger.{Trigger, states, linked}
-use Rattle.matching.specs.Order.{fold, visit, order}
+use Rattle.listing.specs.Order.{fold, visit, order}
 
 -- no entry twice
 abbrev pub Once : List ℕ → Type 0

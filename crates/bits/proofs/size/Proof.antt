@@ -1,0 +1,11 @@
+-- `bits::size` meets its contract: the digits that are set are the members.
+use borrow.Author.Needs.{needs}
+use Rattle.bits.proofs.Counts.{ones-count}
+use Rattle.bits.proofs.size.Statement.{statement}
+use Rattle.bits.proofs.size.Tie as tie
+
+returns : tie.Need-returns
+returns c = ones-count 32 (c .args .word) (search needs)
+
+pub size-spec : {M : Type 1} → statement M
+size-spec = tie.close (tie.spec returns)

@@ -1,0 +1,5 @@
+-- The change list and the depth-first order.
+pub mod Changes
+pub mod Order
+pub mod Placed
+pub mod Walks

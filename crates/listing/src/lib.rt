@@ -1,0 +1,3 @@
+// The two lists that answers carry: the changes, and the states in depth-first order.
+pub mod changes;
+pub mod depth_first;

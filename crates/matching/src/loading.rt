@@ -1,0 +1,168 @@
+// Loading a trigger and a graph.
+ghost use mathlib.Core.Path.{_≡_};
+ghost use mathlib.Core.Bool.{true, false, not, _&&_, _||_};
+ghost use mathlib.Core.List.{_++_};
+ghost use Prim.Native.Nat.{ℕ, suc, _-_, _^_, _<_, _≤_};
+ghost use lib.Dec.{ltb, eqb};
+ghost use lib.ListN.{length, getD, drop};
+ghost use Rattle.simulation.specs.Sets.{allBelow};
+ghost use Rattle.session.specs.Layout.{below, image};
+ghost use Rattle.matching.specs.Rules.{given, givenTrigger, givenGraph, precedes, loadRules, verdict};
+ghost use Rattle.matching.specs.Promises.{Loaded};
+use super::Answer;
+use super::solve::finish;
+use super::solve::solve;
+
+// Rule 3: the memory or the room is too short.
+pub fn too_short(memory: usize, room: usize) -> bool
+    ensures { λ r. ⌜ r ≡ (ltb memory 3123 || ltb room 8192) ⌝ }
+{
+    memory < 3123 || room < 8192
+}
+
+// Rule 4: no state, too many, or one given in part.
+pub fn states_wrong(masks: usize, values: usize, links: usize) -> bool
+    ensures { λ r. ⌜ r ≡ ((eqb masks 0 || ltb 16 masks) || (not (eqb values masks) || not (eqb links masks))) ⌝ }
+{
+    (masks == 0 || 16 < masks) || (values != masks || links != masks)
+}
+
+// Rule 5: a link goes to a state above the number of states.
+pub fn links_wrong(links: &[u32], states: usize) -> bool
+    requires { ⌜ states ≤ 16 ⌝ }
+    ensures { λ r. ⌜ r ≡ not (below (2 ^ states) (now (links .entry))) ⌝ }
+{
+    !bits::subset(bits::gathered(links), bits::below(states as u32))
+}
+
+// Rule 7: too many edges, or one given in part.
+pub fn edges_wrong(starts: usize, ends: usize) -> bool
+    ensures { λ r. ⌜ r ≡ (ltb 2048 starts || not (eqb ends starts)) ⌝ }
+{
+    2048 < starts || ends != starts
+}
+
+// Rule 8: an edge names a node that is not below the number of nodes.
+pub fn nodes_wrong(starts: &[u32], ends: &[u32], nodes: u32) -> bool
+    ensures { λ r. ⌜ r ≡ not (below nodes (now (starts .entry)) && below nodes (now (ends .entry))) ⌝ }
+{
+    let named = session::all_below(starts, nodes) && session::all_below(ends, nodes);
+    !named
+}
+
+// Whether an edge comes before another.
+pub fn comes_before(a: u32, b: u32, c: u32, d: u32) -> bool
+    ensures { λ r. ⌜ r ≡ precedes a b c d ⌝ }
+{
+    a < c || (a == c && b < d)
+}
+
+// Rule 9: the edges do not ascend strictly.
+pub fn order_wrong(starts: &[u32], ends: &[u32]) -> bool
+    requires { ⌜ length (now ends) ≡ length (now starts) ⌝ }
+    ensures { λ r. ⌜ r ≡ not (allBelow (length (now (starts .entry)) - 1) (λ k. precedes (getD (now (starts .entry)) k 0) (getD (now (ends .entry)) k 0) (getD (now (starts .entry)) (suc k) 0) (getD (now (ends .entry)) (suc k) 0))) ⌝ }
+{
+    let mut faults: u32 = 0;
+    let mut k = 1;
+    while k < starts.len() {
+        if !comes_before(starts[k - 1], ends[k - 1], starts[k], ends[k]) {
+            faults = 1;
+        }
+        k += 1;
+    }
+    faults != 0
+}
+
+// The number of the first rule that a load breaks, and 0 where it breaks none.
+pub fn load_rule(
+    memory: usize,
+    room: usize,
+    masks: &[u16],
+    values: &[u16],
+    links: &[u32],
+    samples: &[u16],
+    starts: &[u32],
+    ends: &[u32],
+) -> u8
+    ensures { λ r. ⌜ r ≡ verdict (loadRules memory room (given (now (masks .entry)) (now (values .entry)) (now (links .entry)) (now (samples .entry)) (now (starts .entry)) (now (ends .entry)))) ⌝ }
+{
+    if too_short(memory, room) {
+        return 3;
+    }
+    if states_wrong(masks.len(), values.len(), links.len()) {
+        return 4;
+    }
+    if links_wrong(links, masks.len()) {
+        return 5;
+    }
+    if 512 < samples.len() {
+        return 6;
+    }
+    if edges_wrong(starts.len(), ends.len()) {
+        return 7;
+    }
+    if nodes_wrong(starts, ends, samples.len() as u32) {
+        return 8;
+    }
+    if order_wrong(starts, ends) {
+        return 9;
+    }
+    0
+}
+
+// Writes the sections of a load that breaks no rule, with no mark set.
+pub fn write_sections(
+    session: &mut [u32],
+    masks: &[u16],
+    values: &[u16],
+    links: &[u32],
+    samples: &[u16],
+    starts: &[u32],
+    ends: &[u32],
+)
+    requires { ⌜ verdict (loadRules (length (now session)) 8192 (given (now masks) (now values) (now links) (now samples) (now starts) (now ends))) ≡ 0 ⌝ }
+    ensures { λ r. ⌜ now (session .exit) ≡ image (givenTrigger (given (now (masks .entry)) (now (values .entry)) (now (links .entry)) (now (samples .entry)) (now (starts .entry)) (now (ends .entry)))) (givenGraph (given (now (masks .entry)) (now (values .entry)) (now (links .entry)) (now (samples .entry)) (now (starts .entry)) (now (ends .entry)))) (λ u v. false) ++ drop 3123 (now (session .entry)) ⌝ }
+{
+    session[0] = masks.len() as u32;
+    session[1] = samples.len() as u32;
+    session[2] = starts.len() as u32;
+    session::fill_halves(&mut session[3..19], masks);
+    session::fill_halves(&mut session[19..35], values);
+    session::fill_words(&mut session[35..51], links);
+    session::fill_halves(&mut session[51..563], samples);
+    session::fill_edges(&mut session[563..2611], starts, ends);
+    session::fill_words(&mut session[2611..3123], &links[..0]);
+}
+
+// Loads a trigger and a graph: a list for each field.
+pub fn load(
+    session: &mut [u32],
+    masks: &[u16],
+    values: &[u16],
+    links: &[u32],
+    samples: &[u16],
+    starts: &[u32],
+    ends: &[u32],
+    changes: &mut [i32],
+) -> Answer
+    ensures { λ r. ⌜ Loaded (given (now (masks .entry)) (now (values .entry)) (now (links .entry)) (now (samples .entry)) (now (starts .entry)) (now (ends .entry))) (now (session .entry)) (now (changes .entry)) r (now (session .exit)) (now (changes .exit)) ⌝ }
+{
+    let broken = load_rule(
+        session.len(),
+        changes.len(),
+        masks,
+        values,
+        links,
+        samples,
+        starts,
+        ends,
+    );
+    if broken != 0 {
+        return Answer::Refused(broken);
+    }
+    write_sections(session, masks, values, links, samples, starts, ends);
+    let before = [0u32; 512];
+    let mut table = [0u32; 512];
+    let trials = solve(session, &mut table);
+    finish(session, &before, &table, trials, changes)
+}

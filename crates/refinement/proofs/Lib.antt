@@ -1,0 +1,7 @@
+-- The laws by which the inner loops meet their contracts.
+pub mod Kept
+pub mod Waits
+pub mod Incoming
+pub mod Settling
+pub mod Turns
+pub mod Admitting

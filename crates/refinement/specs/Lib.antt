@@ -1,0 +1,2 @@
+-- What the inner loops compute.
+pub mod Tables

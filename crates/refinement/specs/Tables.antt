@@ -1,0 +1,120 @@
+-- What the inner loops compute: tables of marks, the edges of a node, the nodes that wait, the index of incoming edges. Inner contracts cite these.
+use Prim.Native.Nat.{ℕ, zero, suc, _+_, _-_, _*_, _/_, _%_, _<_}
+use mathlib.Core.Path.{_≡_}
+use mathlib.Core.Bool.{Bool, true, false, not, _&&_, _||_, cond}
+use mathlib.Core.List.{List}
+use lib.Dec.{ltb, eqb}
+use lib.ListN.{length, getD, take, drop}
+use Rattle.simulation.specs.Sets.{Set, In, union, without, anyBelow, allBelow, count}
+use Rattle.simulation.specs.Search.{found}
+use Rattle.simulation.specs.Ordered.{ascends, from, joins}
+use Rattle.simulation.specs.System.{supported, refined}
+use Rattle.simulation.specs.Pattern.{Pattern, paired, system, plain}
+use Rattle.bits.specs.Word.{members}
+use Rattle.session.specs.Limits.{maxStates, maxNodes, maxEdges, wordBits}
+use Rattle.session.specs.Trigger.{Marks, agrees}
+
+-- a table has a word for each node: the states marked there
+abbrev pub marked : List ℕ → Marks
+marked ts u v = members (getD ts v 0) u
+
+-- ---- support
+
+-- a link to the state o has a carrier among these edges, by the marks of either table
+unfoldable pub carried : List ℕ → List ℕ → List ℕ → ℕ → Bool
+carried es ss ts o = found (λ k. marked ss o (getD es k 0 % maxNodes) || marked ts o (getD es k 0 % maxNodes)) 0 (length es)
+
+-- each link of this set has one
+unfoldable pub whole : ℕ → ℕ → List ℕ → List ℕ → List ℕ → Bool
+whole n set es ss ts = allBelow n (λ o. not (members set o) || carried es ss ts o)
+
+-- the states of the word w that keep their support at a node with the edges es
+abbrev pub keptOf : ℕ → List ℕ → List ℕ → List ℕ → List ℕ → Set
+keptOf w links es ss ts u = members w u && (not (ltb u (length links)) || whole (length links) (getD links u 0) es ss ts)
+
+-- the edges from v
+unfoldable pub edgesFrom : List ℕ → ℕ → List ℕ
+edgesFrom es v = take (from maxNodes es (v + 1) - from maxNodes es v) (drop (from maxNodes es v) es)
+
+-- ---- the nodes that wait, a bit for each
+
+abbrev pub waits : List ℕ → Set
+waits ws v = members (getD ws (v / 32) 0) (v % 32)
+
+-- ---- the index of incoming edges
+
+-- one more than the last index below n at which P holds; 0 where there is none
+unfoldable pub last : Set → ℕ → ℕ
+last P zero = 0
+last P (suc n) = cond (P n) (suc n) (last P n)
+
+abbrev pub endsAt : List ℕ → ℕ → Set
+endsAt es v k = eqb (getD es k 0 % maxNodes) v
+
+-- a head for each node, the last edge that ends there; for each edge the one before it that ends at the same node
+pub record Indexed (es heads nexts : List ℕ) : Type 0 where
+  pub heads-long : length heads ≡ maxNodes
+  pub nexts-long : length nexts ≡ maxEdges
+  pub head : (v : ℕ) → v < maxNodes → getD heads v 0 ≡ last (endsAt es v) (length es)
+  pub next : (k : ℕ) → k < length es → getD nexts k 0 ≡ last (endsAt es (getD es k 0 % maxNodes)) k
+
+-- w has an edge to v
+unfoldable pub precedes : List ℕ → ℕ → Set
+precedes es v w = anyBelow (length es) (λ k. endsAt es v k && eqb (getD es k 0 / maxNodes) w)
+
+-- ---- refinement
+
+-- ascending edges between nodes
+pub record Sound (nodes : ℕ) (links es : List ℕ) : Type 0 where
+  pub some-state : 0 < length links
+  pub few-states : length links < suc maxStates
+  pub few-nodes : nodes < suc maxNodes
+  pub few-edges : length es < suc maxEdges
+  pub ascend : ascends es ≡ true
+  pub starts : (k : ℕ) → k < length es → getD es k 0 / maxNodes < nodes
+  pub ends : (k : ℕ) → k < length es → getD es k 0 % maxNodes < nodes
+
+-- one look at the node v
+pub record Turned (links es ss ts ws : List ℕ) (v : ℕ) (ts' ws' : List ℕ) : Type 0 where
+  pub table-long : length ts' ≡ length ts
+  pub waits-long : length ws' ≡ length ws
+  pub others : (w : ℕ) → (w ≡ v → ⊥) → getD ts' w 0 ≡ getD ts w 0
+  pub here : members (getD ts' v 0) ≡ keptOf (getD ts v 0) links (edgesFrom es v) ss ts
+  pub waiting : waits ws' ≡ (λ w. without (waits ws) v w || (not (eqb (getD ts' v 0) (getD ts v 0)) && precedes es v w))
+
+-- links and edges as a pattern, and a table as a set of its pairs
+abbrev pub patternOf : ℕ → List ℕ → List ℕ → Pattern
+patternOf nodes links es = plain (length links) nodes (λ u o. members (getD links u 0) o) (λ u v. true) (joins maxNodes es)
+
+abbrev pub tabled : ℕ → List ℕ → List ℕ → List ℕ → Set
+tabled nodes links es ts = paired (patternOf nodes links es) (marked ts)
+
+-- what refinement from the nodes that wait leaves of a table: between the refined set and what was given, and the refined set itself where
+-- every pair at a node that does not wait was supported
+pub record Settled (nodes : ℕ) (links es ss ts ws ts' : List ℕ) : Type 0 where
+  pub long : length ts' ≡ length ts
+  pub within : (u v : ℕ) → marked ts' u v ≡ true → marked ts u v ≡ true
+  pub holds : (p : ℕ) → In (refined (system (patternOf nodes links es)) (tabled nodes links es ss) (tabled nodes links es ts)) p
+      → In (tabled nodes links es ts') p
+  pub exact : ((p : ℕ) → p < nodes * length links → In (tabled nodes links es ts) p → waits ws (p / length links) ≡ false
+      → In (supported (system (patternOf nodes links es)) (union (tabled nodes links es ss) (tabled nodes links es ts))) p)
+      → (p : ℕ) → p < nodes * length links
+      → tabled nodes links es ts' p ≡ refined (system (patternOf nodes links es)) (tabled nodes links es ss) (tabled nodes links es ts) p
+
+-- ---- the admitted pairs
+
+-- the state u is put into the words of the nodes that a mask and a value admit, and those nodes are counted
+pub record Admits (samples : List ℕ) (mask value u : ℕ) (ts : List ℕ) (n : ℕ) (ts' : List ℕ) : Type 0 where
+  pub long : length ts' ≡ length ts
+  pub words : (x v : ℕ) → marked ts' x v
+      ≡ (marked ts x v || (eqb x u && (ltb v (length samples) && agrees wordBits mask value (getD samples v 0))))
+  pub counted : n ≡ count (length samples) (λ v. agrees wordBits mask value (getD samples v 0))
+
+-- all states
+pub record Admitted (masks values samples : List ℕ) (n : ℕ) (ts' : List ℕ) : Type 0 where
+  pub long : length ts' ≡ maxNodes
+  pub words : (u v : ℕ) → marked ts' u v
+      ≡ (ltb u (length masks) && (ltb v (length samples) && agrees wordBits (getD masks u 0) (getD values u 0) (getD samples v 0)))
+  pub counted : n
+      ≡ count (length samples * length masks)
+      (λ p. agrees wordBits (getD masks (p % length masks) 0) (getD values (p % length masks) 0) (getD samples (p / length masks) 0))

@@ -1,0 +1,136 @@
+-- `session::graph_fits` meets its contract: each test is made where those before it hold.
+use Prim.Native.Nat.{_+_, _-_}
+use borrow.Author.Needs.{needs}
+use native.Mathlib.Nat.{add-sub-cancel-left, sub-add-eq}
+use mathlib.Core.Path.{_≡_}
+use Rattle.session.specs.Layout.{part, below}
+use Rattle.session.specs.Tests.{allNamed, graphTest}
+use Rattle.session.proofs.graph_fits.Statement.{statement}
+use Rattle.session.proofs.graph_fits.Tie as tie
+
+add-end : tie.Need-add-end
+add-end c = search needs
+
+sub-section-fits : tie.Need-sub-section-fits
+sub-section-fits c = search needs
+
+part-section-fits-start : tie.Need-part-section-fits-start
+part-section-fits-start c = search needs
+
+part-section-fits-end : tie.Need-part-section-fits-end
+part-section-fits-end c = search needs
+
+section-fits-requires : tie.Need-section-fits-requires
+section-fits-requires c κs = search needs
+
+mul-all-below : tie.Need-mul-all-below
+mul-all-below c = search needs
+
+sub-all-below : tie.Need-sub-all-below
+sub-all-below c = search needs
+
+part-all-below-start : tie.Need-part-all-below-start
+part-all-below-start c = search needs
+
+part-all-below-end : tie.Need-part-all-below-end
+part-all-below-end c = search needs
+
+all-below-requires : tie.Need-all-below-requires
+all-below-requires c κs = search needs
+
+sub-all-named : tie.Need-sub-all-named
+sub-all-named c = search needs
+
+part-all-named-start : tie.Need-part-all-named-start
+part-all-named-start c = search needs
+
+part-all-named-end : tie.Need-part-all-named-end
+part-all-named-end c = search needs
+
+cast-all-named : tie.Need-cast-all-named
+cast-all-named c = search needs
+
+all-named-requires : tie.Need-all-named-requires
+all-named-requires c κs = search needs
+
+sub-all-ascend : tie.Need-sub-all-ascend
+sub-all-ascend c = search needs
+
+part-all-ascend-start : tie.Need-part-all-ascend-start
+part-all-ascend-start c = search needs
+
+part-all-ascend-end : tie.Need-part-all-ascend-end
+part-all-ascend-end c = search needs
+
+all-ascend-requires : tie.Need-all-ascend-requires
+all-ascend-requires c κs = search needs
+
+-- the parts of the edges, by their lengths
+rest : (c : tie.After-all-below)
+    → let a = c .before .before .before .before .before .before .args in
+    c .all-below .result ≡ below 1 (part (a .session .now) (563 + a .edges) (2048 - a .edges))
+rest c =
+    let a = c .before .before .before .before .before .before .args in
+    rw (sub-add-eq 2611 563 (a .edges)) at (c .all-below .ensures)
+
+named : (c : tie.After-all-named)
+    → let a = c .before .before .before .before .before .before .before .before .before .args in
+    c .all-named .result ≡ allNamed (a .nodes) (part (a .session .now) 563 (a .edges))
+named c =
+    let a = c .before .before .before .before .before .before .before .before .before .args in
+    rw (add-sub-cancel-left 563 (a .edges)) at (c .all-named .ensures)
+
+returns : tie.Need-returns
+unfolding graphTest
+returns c =
+    let three = c .before .before in
+    let two = three .before .before .before in
+    let one = two .before .before .before in
+    let a = one .before .before .before .before .args in
+    rw (← one .before .section-fits .ensures, one .if1 .taken, ← rest (two .before), two .if2 .taken, ← named (three .before), three .if3 .taken)
+    (rw (add-sub-cancel-left 563 (a .edges)) at (c .all-ascend .ensures))
+
+returns-2 : tie.Need-returns-2
+unfolding graphTest
+returns-2 c =
+    let two = c .before .before .before in
+    let one = two .before .before .before in
+    rw (← one .before .section-fits .ensures, one .if1 .taken, ← rest (two .before), two .if2 .taken, ← named (c .before), c .if3 .left)
+
+returns-3 : tie.Need-returns-3
+unfolding graphTest
+returns-3 c =
+    let one = c .before .before .before in
+    rw (← one .before .section-fits .ensures, one .if1 .taken, ← rest (c .before), c .if2 .left)
+
+returns-4 : tie.Need-returns-4
+unfolding graphTest
+returns-4 c = rw (← c .before .section-fits .ensures, c .if1 .left)
+
+pub graph-fits-spec : {M : Type 1} → statement M
+graph-fits-spec =
+    tie.close
+    (tie.spec
+    add-end
+    sub-section-fits
+    part-section-fits-start
+    part-section-fits-end
+    section-fits-requires
+    mul-all-below
+    sub-all-below
+    part-all-below-start
+    part-all-below-end
+    all-below-requires
+    sub-all-named
+    part-all-named-start
+    part-all-named-end
+    cast-all-named
+    all-named-requires
+    sub-all-ascend
+    part-all-ascend-start
+    part-all-ascend-end
+    all-ascend-requires
+    returns
+    returns-2
+    returns-3
+    returns-4)

@@ -1,0 +1,46 @@
+-- What the parts of the layout test and of a load compute: the inner contracts cite these.
+use Prim.Native.Nat.{ℕ, _+_, _-_, _^_, _/_, _%_}
+use mathlib.Core.Bool.{Bool, not, _&&_, _||_, cond}
+use mathlib.Core.List.{List}
+use lib.Dec.{ltb}
+use lib.ListN.{length, getD}
+use Rattle.simulation.specs.Sets.{allBelow}
+use Rattle.simulation.specs.Ordered.{ascends}
+use Rattle.bits.specs.Word.{members}
+use Rattle.session.specs.Limits.{maxStates, maxNodes, maxEdges, wordBits, masksAt, valuesAt, linksAt, samplesAt, edgesAt, marksAt}
+use Rattle.session.specs.Trigger.{agrees, edgeNumber}
+use Rattle.session.specs.Layout.{table, part, below}
+
+-- a section: the words before `used` are below 2 ^ k, and those from it on are zero
+unfoldable pub fits : ℕ → ℕ → List ℕ → Bool
+fits k used xs = allBelow (length xs) (λ i. ltb (getD xs i 0) (cond (ltb i used) (2 ^ k) 1))
+
+-- each edge joins two of this many nodes
+unfoldable pub allNamed : ℕ → List ℕ → Bool
+allNamed nodes es = allBelow (length es) (λ k. ltb (getD es k 0 / maxNodes) nodes && ltb (getD es k 0 % maxNodes) nodes)
+
+-- no mark of the state u is at a sample that its mask and value do not admit
+unfoldable pub sparse : List ℕ → List ℕ → ℕ → ℕ → ℕ → Bool
+sparse samples marks mask value u =
+    allBelow (length marks) (λ v. not (members (getD marks v 0) u) || agrees wordBits mask value (getD samples v 0))
+
+-- the numbers of the edges that are given by their starts and ends
+unfoldable pub numbered : List ℕ → List ℕ → List ℕ
+numbered starts ends = table (length starts) (λ k. edgeNumber (getD starts k 0) (getD ends k 0))
+
+-- the layout test of a memory that is long enough, with n states, m nodes and e edges: each section, then what it says of the others
+unfoldable pub triggerTest : List ℕ → ℕ → Bool
+triggerTest xs n =
+    fits wordBits n (part xs masksAt maxStates)
+    && (fits wordBits n (part xs valuesAt maxStates) && fits n n (part xs linksAt maxStates))
+
+unfoldable pub graphTest : List ℕ → ℕ → ℕ → Bool
+graphTest xs m e =
+    fits wordBits m (part xs samplesAt maxNodes)
+    && (below 1 (part xs (edgesAt + e) (maxEdges - e)) && (allNamed m (part xs edgesAt e) && ascends (part xs edgesAt e)))
+
+unfoldable pub marksTest : List ℕ → ℕ → ℕ → Bool
+marksTest xs n m =
+    fits n m (part xs marksAt maxNodes)
+    && allBelow n
+    (λ u. sparse (part xs samplesAt m) (part xs marksAt m) (getD (part xs masksAt n) u 0) (getD (part xs valuesAt n) u 0) u)
