@@ -4,12 +4,13 @@ ghost use Prim.Native.Nat.{_+_, _*_, _<_, _≤_};
 ghost use lib.IntN.{natAbs};
 ghost use lib.Signed.{nonNeg};
 ghost use lib.ListN.{length};
+ghost use Rattle.session.specs.Limits.{maxChanges, maxNodes, maxStates};
 ghost use Rattle.listing.specs.Changes.{sizeOf, signed};
 ghost use Rattle.listing.specs.Placed.{nodeChanges, tableChanges, Placed};
 
 // The change of a state at a node: positive where it begins to stand, negative where it ceases.
 pub fn change(state: u32, node: u32, begins: bool) -> i32
-    requires { ⌜ (state < 32) × (node < 512) ⌝ }
+    requires { ⌜ (state < 32) × (node < maxNodes) ⌝ }
     ensures { λ r. ⌜ r ≡ signed begins (sizeOf state node) ⌝ }
 {
     let size = (node * 64 + (state + 1)) as i32;
@@ -59,7 +60,7 @@ pub fn node_changes(
     before: u32,
     after: u32,
 ) -> usize
-    requires { ⌜ (states ≤ 32) × (node < 512) × (at + states ≤ length (now changes)) ⌝ }
+    requires { ⌜ (states ≤ 32) × (node < maxNodes) × (at + states ≤ length (now changes)) ⌝ }
     ensures { λ r. ⌜ Placed (now (changes .entry)) at (nodeChanges node states before after) (now (changes .exit)) r ⌝ }
 {
     let mut next = at;
@@ -84,7 +85,7 @@ pub fn write_changes(
     before: &[u32],
     after: &[u32],
 ) -> usize
-    requires { ⌜ (states ≤ 16) × (nodes ≤ 512) × (8192 ≤ length (now changes)) ⌝ }
+    requires { ⌜ (states ≤ maxStates) × (nodes ≤ maxNodes) × (maxChanges ≤ length (now changes)) ⌝ }
     requires { ⌜ (nodes ≤ length (now before)) × (nodes ≤ length (now after)) ⌝ }
     ensures { λ r. ⌜ Placed (now (changes .entry)) 0 (tableChanges states nodes (now (before .entry)) (now (after .entry))) (now (changes .exit)) r ⌝ }
 {

@@ -6,6 +6,7 @@ ghost use lib.ListN.{length};
 ghost use Rattle.session.specs.Layout.{section};
 ghost use Rattle.listing.specs.Order.{order};
 ghost use Rattle.listing.specs.Walks.{linkedBy, Holds, Counted, Written, Ready, Visited, rest};
+ghost use Rattle.session.specs.Limits.{maxStates};
 
 // What was visited, as a set, and the numbers of the states in the order in which they were; places past them are zero.
 pub struct Walk {
@@ -50,7 +51,7 @@ pub fn visit(links: &[u32], state: u32, walk: Walk) -> Walk
 
 // The states that the visit of State One does not reach follow in ascending number.
 pub fn followed(states: u32, walk: Walk) -> Walk
-    requires { ⌜ (states ≤ 16) × Counted states walk ⌝ }
+    requires { ⌜ (states ≤ maxStates) × Counted states walk ⌝ }
     ensures { λ r. ⌜ ((xs : List ℕ) → Holds xs walk → Holds (rest states xs) r) ⌝ }
 {
     let mut w = walk;

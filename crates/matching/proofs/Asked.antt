@@ -21,19 +21,13 @@ use Rattle.refinement.specs.Tables.{marked}
 use Rattle.listing.specs.Order.{fold, visit, order}
 use Rattle.listing.specs.Walks.{linkedBy, rest}
 use Rattle.listing.proofs.Orders.{fold-same}
-use Rattle.matching.specs.Rules.{Rule, rule, verdict, questionRules, pairRules}
-use Rattle.matching.specs.Answers.{accepted, refused, outcome}
-use Rattle.matching.specs.Standing.{fires}
-use Rattle.matching.proofs.Verdicts.{verdict-pass}
-use Rattle.matching.proofs.Given.{row-passed, row-broken}
-use Rattle.matching.proofs.Demands.{outcome-refused}
-use Rattle.matching.proofs.Solving.{part-is, held-links, held-fires}
+use Rattle.promises.specs.Rules.{Rule, rule, verdict, questionRules, pairRules}
+use Rattle.promises.specs.Answers.{accepted, refused, outcome}
+use Rattle.promises.specs.Standing.{fires}
+use Rattle.promises.proofs.Verdicts.{verdict-pass, row-passed, row-broken, rows-end, rows-broken}
+use Rattle.promises.proofs.Demands.{outcome-refused}
 
 -- ---- the rules
-
-zero-left : 0 ≡ verdict []
-unfolding verdict
-zero-left = refl
 
 module _ (xs : List ℕ) (more : List Rule) where
   -- rules 3 and 10: broken, held, and what they tell
@@ -51,13 +45,7 @@ module _ (xs : List ℕ) (more : List Rule) where
 
   -- what breaks one of them breaks the same with more rules
   pub question-broken : (n : ℕ) → n ≡ verdict (questionRules xs []) → (n ≡ 0 → ⊥) → n ≡ verdict (questionRules xs more)
-  unfolding verdict
-  question-broken n = by (ltb (length xs) fixedSize) (not (inLayout xs))
-    where
-      by : (a b : Bool) → n ≡ cond a 3 (cond b 10 0) → (n ≡ 0 → ⊥) → n ≡ cond a 3 (cond b 10 (verdict more))
-      by true b e bad = e
-      by false true e bad = e
-      by false false e bad = absurd (bad e)
+  question-broken = rows-broken (questionRules xs []) more
 
   pub question-passed : verdict (questionRules xs more) ≡ 0 → (inLayout xs ≡ true) × (verdict more ≡ 0)
   question-passed z =
@@ -66,7 +54,7 @@ module _ (xs : List ℕ) (more : List Rule) where
       (not-false (inLayout xs) (second .0), second .1)
 
 pub question-none : (xs : List ℕ) → inLayout xs ≡ true → 0 ≡ verdict (questionRules xs [])
-question-none xs h = question-held xs [] h 0 zero-left
+question-none xs h = question-held xs [] h 0 rows-end
 
 module _ (xs : List ℕ) (state v : ℕ) where
   -- a state by its number, and a node, by the counts that are held
@@ -103,7 +91,7 @@ module _ (xs : List ℕ) (state v : ℕ) where
   pair-wrong h bad = question-held xs _ h 11 (row-broken 11 _ _ _ refl (not-make (refuted named (λ e. bad (named-take h e)))))
 
   pub pair-none : inLayout xs ≡ true → Named → 0 ≡ verdict (pairRules xs state v)
-  pair-none h n = question-held xs _ h 0 (row-passed 11 _ _ _ refl 0 (ap not (named-make h n)) zero-left)
+  pair-none h n = question-held xs _ h 0 (row-passed 11 _ _ _ refl 0 (ap not (named-make h n)) rows-end)
 
   pub pair-broken : (n : ℕ) → n ≡ verdict (questionRules xs []) → (n ≡ 0 → ⊥) → n ≡ verdict (pairRules xs state v)
   pair-broken = question-broken xs (rule 11 (not named) ∷ [])
@@ -137,30 +125,6 @@ module _ (xs : List ℕ) where
   unfolding marksOf
   mark-held u v l k = rw (lt-ltb u (getD xs 0 0) l, lt-ltb v (getD xs 1 0) k)
 
-  module _ (h : inLayout xs ≡ true) where
-    abbrev facts : LayoutFacts xs
-    facts = layout-facts xs h
-
-    abbrev marks : List ℕ
-    marks = take (2611 + getD xs 1 0 - 2611) (drop 2611 xs)
-
-    read : fires (triggerOf xs) (graphOf xs) (marked (drop 2611 xs)) ≡ fires (triggerOf xs) (graphOf xs) (marksOf xs)
-    unfolding fires
-    read =
-        all-same (states (triggerOf xs)) (λ u. anyBelow (nodes (graphOf xs)) (marked (drop 2611 xs) u)) (λ u. anyBelow (nodes (graphOf xs)) (marksOf xs u))
-        (λ u l.
-        any-same (nodes (graphOf xs)) (marked (drop 2611 xs) u) (marksOf xs u)
-        (λ v k.
-        ap (λ (w : ℕ). members w u) (getD-drop 2611 xs v 0)
-        ∙ mark-held u v (omega (arith, facts .counts .0)) (omega (arith, facts .counts .1))))
-
-    pub asked-fires : allBelow (getD xs 0 0) (λ u. anyBelow (length marks) (λ v. members (getD marks v 0) u))
-        ≡ fires (triggerOf xs) (graphOf xs) (marksOf xs)
-    asked-fires =
-        ap (λ (ws : List ℕ). allBelow (getD xs 0 0) (λ u. anyBelow (length ws) (λ v. members (getD ws v 0) u))) (part-is xs 2611 (getD xs 1 0))
-        ∙ held-fires xs h (drop 2611 xs) (omega (arith, length-drop 2611 xs, layout-limits xs h))
-        ∙ read
-
 -- ---- the order depends on the count and the links alone
 
 module _ (t t' : Trigger) (count : states t ≡ states t') (links : t .links ≡ t' .links) where
@@ -187,15 +151,10 @@ module _ (t t' : Trigger) (count : states t ≡ states t') (links : t .links ≡
       (visit-same (states t) 0 [] ∙ ap (λ (n : ℕ). visit t' n 0 []) count)
 
 module _ (xs : List ℕ) (h : inLayout xs ≡ true) where
-  abbrev sets : List ℕ
-  sets = take (35 + getD xs 0 0 - 35) (drop 35 xs)
-
-  pub links-long : (0 < length sets) × (length sets ≤ 16)
+  pub links-long : (0 < length (triggerOf xs .links)) × (length (triggerOf xs .links) ≤ 16)
   links-long =
       let f = layout-facts xs h .trigger in
-      rw (held-links xs h, f .links) (f .some, f .few)
+      rw (f .links) (f .some, f .few)
 
-  pub asked-order : order (linkedBy sets) ≡ order (triggerOf xs)
-  asked-order =
-      ap (λ (ls : List ℕ). order (linkedBy ls)) (held-links xs h)
-      ∙ order-same (linkedBy (triggerOf xs .links)) (triggerOf xs) (layout-facts xs h .trigger .links) refl
+  pub asked-order : order (linkedBy (triggerOf xs .links)) ≡ order (triggerOf xs)
+  asked-order = order-same (linkedBy (triggerOf xs .links)) (triggerOf xs) (layout-facts xs h .trigger .links) refl

@@ -10,19 +10,20 @@ use Rattle.bits.proofs.Words.{zero-members}
 use Rattle.bits.specs.Word.{members}
 use Rattle.session.specs.Limits.{fixedSize, wordBits}
 use Rattle.session.specs.Trigger.{Trigger, Graph, Marks, states, nodes, admits}
-use Rattle.session.specs.Layout.{below, image, triggerOf, graphOf, inLayout}
+use Rattle.session.specs.Layout.{below, image, triggerOf, graphOf, marksOf, inLayout}
 use Rattle.session.proofs.Valid.{TriggerFacts, GraphFacts, marks-valid}
 use Rattle.session.proofs.Image.{drop-image}
-use Rattle.session.proofs.Decoded.{trigger-image, graph-image, layout-image}
+use Rattle.session.proofs.Decoded.{trigger-image, graph-image, marks-image, layout-image}
 use Rattle.refinement.specs.Tables.{marked}
 use Rattle.listing.specs.Changes.{changes}
-use Rattle.matching.specs.declared.Answer.{Answer}
-use Rattle.matching.specs.Standing.{stands, size, pairsOf}
-use Rattle.matching.specs.Rules.{Given, givenTrigger, givenGraph, loadRules, verdict}
-use Rattle.matching.specs.Promises.{Written}
-use Rattle.matching.specs.Solved.{Solved, Inside}
-use Rattle.matching.proofs.Stands.{stands-inside}
-use Rattle.matching.proofs.Loads.{load-trigger, load-graph}
+use Rattle.promises.specs.declared.Answer.{Answer}
+use Rattle.promises.specs.Standing.{stands, size, pairsOf}
+use Rattle.promises.specs.Rules.{Given, givenTrigger, givenGraph, loadRules, verdict}
+use Rattle.promises.specs.Promises.{Left, Reported}
+use Rattle.reports.specs.Marks.{Inside}
+use Rattle.matching.specs.Solved.{Solved}
+use Rattle.promises.proofs.Stands.{stands-inside, stands-admitted}
+use Rattle.promises.proofs.Loads.{load-trigger, load-graph}
 
 -- words of zero mark nothing
 pub marked-none : (ts : List ℕ) → ((v : ℕ) → getD ts v 0 ≡ 0) → marked ts ≡ (λ u v. false)
@@ -72,16 +73,28 @@ module _ (x : Given) (s : List ℕ) (room : ℕ) (ok : verdict (loadRules (lengt
         subst (λ (y : Trigger). n ≡ size y (givenGraph x) (pairsOf y (givenGraph x) (admits y (givenGraph x)))) holds-t
         (subst (λ (h : Graph). n ≡ size (triggerOf s₁) h (pairsOf (triggerOf s₁) h (admits (triggerOf s₁) h))) holds-g (solved .trials))
 
-    pub load-written : (bs : List ℕ) → ((v : ℕ) → getD bs v 0 ≡ 0) → (c : List ℤ) (r : Answer) (s' : List ℕ) (c' : List ℤ)
-        → Written (triggerOf s₁) (graphOf s₁) (marked ts) n (changes (triggerOf s₁) (graphOf s₁) (marked bs) (marked ts)) s₁ c r s' c'
-        → Written (givenTrigger x) (givenGraph x) (stands (givenTrigger x) (givenGraph x))
-        (size (givenTrigger x) (givenGraph x) (pairsOf (givenTrigger x) (givenGraph x) (admits (givenTrigger x) (givenGraph x))))
-        (changes (givenTrigger x) (givenGraph x) (λ u v. false) (stands (givenTrigger x) (givenGraph x))) s c r s' c'
-    load-written bs none c r s' c' w =
-        let w₁ : Written t g m (size t g (pairsOf t g (admits t g))) (changes t g (λ u v. false) m) s₁ c r s' c' =
-        rw (holds-t, holds-g, stands-is, trials-is, marked-none bs none) at w in
-        record {
-          answer = w₁ .answer;
-          session = w₁ .session ∙ ap (λ (rest : List ℕ). image t g m ++ rest) (ap (drop fixedSize) written ∙ drop-image t g (λ u v. false) (drop fixedSize s));
-          room = w₁ .room;
-        }
+    module _ (s₂ : List ℕ) (stored : s₂ ≡ image (triggerOf s₁) (graphOf s₁) (marked ts) ++ drop fixedSize s₁) where
+      -- with its marks stored it holds the greatest simulation
+      held : s₂ ≡ image (givenTrigger x) (givenGraph x) (stands (givenTrigger x) (givenGraph x)) ++ drop fixedSize s
+      held =
+          rw (holds-t, holds-g, stands-is) at stored
+          ∙ ap (λ (rest : List ℕ). image t g m ++ rest) (ap (drop fixedSize) written ∙ drop-image t g (λ u v. false) (drop fixedSize s))
+
+      pub load-marked : inLayout s₂ ≡ true
+      load-marked =
+          ap inLayout held
+          ∙ layout-image t g m (drop fixedSize s) tf gf (marks-valid t g m (λ u v l k h. stands-admitted t g u v h)) (stands-inside t g)
+
+      pub load-written : (bs : List ℕ) → ((v : ℕ) → getD bs v 0 ≡ 0) → (c : List ℤ) (r : Answer) (c' : List ℤ)
+          → Reported (triggerOf s₂) (graphOf s₂) (marksOf s₂) n (changes (triggerOf s₂) (graphOf s₂) (marked bs) (marksOf s₂)) c r c'
+          → Left (givenTrigger x) (givenGraph x) (stands (givenTrigger x) (givenGraph x)) s s₂
+          × Reported (givenTrigger x) (givenGraph x) (stands (givenTrigger x) (givenGraph x))
+          (size (givenTrigger x) (givenGraph x) (pairsOf (givenTrigger x) (givenGraph x) (admits (givenTrigger x) (givenGraph x))))
+          (changes (givenTrigger x) (givenGraph x) (λ u v. false) (stands (givenTrigger x) (givenGraph x))) c r c'
+      load-written bs none c r c' w =
+          let h-t : triggerOf s₂ ≡ t = ap triggerOf held ∙ trigger-image t g m (drop fixedSize s) tf in
+          let h-g : graphOf s₂ ≡ g = ap graphOf held ∙ graph-image t g m (drop fixedSize s) gf in
+          let h-m : marksOf s₂ ≡ m = ap marksOf held ∙ marks-image t g m (drop fixedSize s) (gf .few) (stands-inside t g) in
+          let w₁ : Reported t g m (size t g (pairsOf t g (admits t g))) (changes t g (λ u v. false) m) c r c' =
+          rw (h-t, h-g, h-m, trials-is, marked-none bs none) at w in
+          (held, w₁)

@@ -1,15 +1,5 @@
--- The laws of the definitions, and the proofs of the demands.
-pub mod Worked
-pub mod Stands
-pub mod Trials
-pub mod Handed
-pub mod Chains
-pub mod Verdicts
+-- The laws of the load and of the questions.
 pub mod Given
-pub mod Loads
-pub mod Edits
-pub mod Steps
-pub mod Demands
 pub mod Solving
 pub mod Sections
 pub mod Finished

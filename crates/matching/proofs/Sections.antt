@@ -12,7 +12,7 @@ use Rattle.session.specs.Layout.{table, section, markWord, image}
 use Rattle.session.specs.Tests.{numbered}
 use Rattle.session.proofs.Tables.{length-section, length-table}
 use Rattle.session.proofs.Stores.{front, image-front, no-marks, write-counts, put-section}
-use Rattle.matching.specs.Rules.{Given, givenTrigger, givenGraph}
+use Rattle.promises.specs.Rules.{Given, givenTrigger, givenGraph}
 
 -- a section that is filled leaves the memory as long as it was
 pub fill-length : (xs source part : List ℕ) (p k : ℕ) → part ≡ section (length (take k (drop p xs))) source → length (putMid p k xs part) ≡ length xs

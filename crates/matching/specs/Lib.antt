@@ -1,8 +1,2 @@
--- What the engine means and promises.
-pub mod Standing
-pub mod Answers
-pub mod Rules
-pub mod Promises
-pub mod Model
-pub mod Demands
+-- What the steps of a load leave.
 pub mod Solved

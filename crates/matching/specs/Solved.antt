@@ -1,4 +1,4 @@
--- What the steps of a load and of an edit leave.
+-- What the steps of a load leave.
 use Prim.Native.Nat.{ℕ, _<_}
 use mathlib.Core.Path.{_≡_}
 use mathlib.Core.Bool.{true}
@@ -8,14 +8,10 @@ use Rattle.session.specs.Limits.{maxNodes}
 use Rattle.session.specs.Trigger.{states, nodes, admits}
 use Rattle.session.specs.Layout.{triggerOf, graphOf}
 use Rattle.refinement.specs.Tables.{marked}
-use Rattle.matching.specs.Standing.{stands, size, pairsOf}
+use Rattle.promises.specs.Standing.{stands, size, pairsOf}
 
 -- a table holds the greatest simulation of what the memory holds, and n is the number of admitted pairs
 pub record Solved (xs : List ℕ) (n : ℕ) (ts : List ℕ) : Type 0 where
   pub long : length ts ≡ maxNodes
   pub marks : (u v : ℕ) → marked ts u v ≡ stands (triggerOf xs) (graphOf xs) u v
   pub trials : n ≡ size (triggerOf xs) (graphOf xs) (pairsOf (triggerOf xs) (graphOf xs) (admits (triggerOf xs) (graphOf xs)))
-
--- a table has marks at states and nodes of what the memory holds alone
-abbrev pub Inside : List ℕ → List ℕ → Type 0
-Inside xs ts = (u v : ℕ) → marked ts u v ≡ true → (u < states (triggerOf xs)) × (v < nodes (graphOf xs))

@@ -1,56 +1,22 @@
-// The engine's calls, and the types in which they answer. What each call promises is defined in specs/.
-mod answers;
+// The engine's calls, gathered. What each promises is defined in the crate `promises`.
 mod loading;
 mod questions;
 mod solve;
 
-pub use answers::changed_part;
+pub use editing::calls::delete;
+pub use editing::calls::insert;
 pub use listing::changes::begins;
 pub use listing::changes::pair_of;
 pub use listing::changes::size_of;
 pub use loading::load;
+pub use promises::Answer;
+pub use promises::Firing;
+pub use promises::FiringAnswer;
+pub use promises::OrderAnswer;
+pub use promises::Report;
+pub use promises::Standing;
+pub use promises::StateOrder;
 pub use questions::fires;
 pub use questions::matches;
 pub use questions::order;
-
-// Whether every state stands at some node.
-pub enum Firing {
-    Fires,
-    Silent,
-}
-
-pub struct Report {
-    pub firing: Firing,
-    pub trials: u32,
-    pub changes: u32,
-}
-
-// The answer to a load or an edit; a refusal has the number of the first rule broken.
-pub enum Answer {
-    Accepted(Report),
-    Refused(u8),
-}
-
-// Whether a state stands at a node.
-pub enum Standing {
-    Stands,
-    Absent,
-    Refused(u8),
-}
-
-// Whether the trigger fires.
-pub enum FiringAnswer {
-    Now(Firing),
-    Refused(u8),
-}
-
-// The states in depth-first order: how many, and their numbers; places past them are zero.
-pub enum OrderAnswer {
-    Listed(u8),
-    Refused(u8),
-}
-
-pub struct StateOrder {
-    pub answer: OrderAnswer,
-    pub states: [u8; 16],
-}
+pub use reports::answers::changed_part;

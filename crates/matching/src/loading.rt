@@ -6,30 +6,26 @@ ghost use Prim.Native.Nat.{ℕ, suc, _-_, _^_, _<_, _≤_};
 ghost use lib.Dec.{ltb, eqb};
 ghost use lib.ListN.{length, getD, drop};
 ghost use Rattle.simulation.specs.Sets.{allBelow};
+ghost use Rattle.session.specs.Limits.{fixedSize, maxChanges, maxEdges, maxStates};
 ghost use Rattle.session.specs.Layout.{below, image};
-ghost use Rattle.matching.specs.Rules.{given, givenTrigger, givenGraph, precedes, loadRules, verdict};
-ghost use Rattle.matching.specs.Promises.{Loaded};
-use super::Answer;
-use super::solve::finish;
+ghost use Rattle.promises.specs.Rules.{given, givenTrigger, givenGraph, precedes, loadRules, verdict};
+ghost use Rattle.promises.specs.Promises.{Loaded};
 use super::solve::solve;
-
-// Rule 3: the memory or the room is too short.
-pub fn too_short(memory: usize, room: usize) -> bool
-    ensures { λ r. ⌜ r ≡ (ltb memory 3123 || ltb room 8192) ⌝ }
-{
-    memory < 3123 || room < 8192
-}
+use promises::Answer;
+use reports::marks::store_marks;
+use reports::report::report;
+use reports::rules::too_short;
 
 // Rule 4: no state, too many, or one given in part.
 pub fn states_wrong(masks: usize, values: usize, links: usize) -> bool
     ensures { λ r. ⌜ r ≡ ((eqb masks 0 || ltb 16 masks) || (not (eqb values masks) || not (eqb links masks))) ⌝ }
 {
-    (masks == 0 || 16 < masks) || (values != masks || links != masks)
+    (masks == 0 || session::MAX_STATES < masks) || (values != masks || links != masks)
 }
 
 // Rule 5: a link goes to a state above the number of states.
 pub fn links_wrong(links: &[u32], states: usize) -> bool
-    requires { ⌜ states ≤ 16 ⌝ }
+    requires { ⌜ states ≤ maxStates ⌝ }
     ensures { λ r. ⌜ r ≡ not (below (2 ^ states) (now (links .entry))) ⌝ }
 {
     !bits::subset(bits::gathered(links), bits::below(states as u32))
@@ -37,9 +33,9 @@ pub fn links_wrong(links: &[u32], states: usize) -> bool
 
 // Rule 7: too many edges, or one given in part.
 pub fn edges_wrong(starts: usize, ends: usize) -> bool
-    ensures { λ r. ⌜ r ≡ (ltb 2048 starts || not (eqb ends starts)) ⌝ }
+    ensures { λ r. ⌜ r ≡ (ltb maxEdges starts || not (eqb ends starts)) ⌝ }
 {
-    2048 < starts || ends != starts
+    session::MAX_EDGES < starts || ends != starts
 }
 
 // Rule 8: an edge names a node that is not below the number of nodes.
@@ -95,7 +91,7 @@ pub fn load_rule(
     if links_wrong(links, masks.len()) {
         return 5;
     }
-    if 512 < samples.len() {
+    if session::MAX_NODES < samples.len() {
         return 6;
     }
     if edges_wrong(starts.len(), ends.len()) {
@@ -120,18 +116,28 @@ pub fn write_sections(
     starts: &[u32],
     ends: &[u32],
 )
-    requires { ⌜ verdict (loadRules (length (now session)) 8192 (given (now masks) (now values) (now links) (now samples) (now starts) (now ends))) ≡ 0 ⌝ }
-    ensures { λ r. ⌜ now (session .exit) ≡ image (givenTrigger (given (now (masks .entry)) (now (values .entry)) (now (links .entry)) (now (samples .entry)) (now (starts .entry)) (now (ends .entry)))) (givenGraph (given (now (masks .entry)) (now (values .entry)) (now (links .entry)) (now (samples .entry)) (now (starts .entry)) (now (ends .entry)))) (λ u v. false) ++ drop 3123 (now (session .entry)) ⌝ }
+    requires { ⌜ verdict (loadRules (length (now session)) maxChanges (given (now masks) (now values) (now links) (now samples) (now starts) (now ends))) ≡ 0 ⌝ }
+    ensures { λ r. ⌜ now (session .exit) ≡ image (givenTrigger (given (now (masks .entry)) (now (values .entry)) (now (links .entry)) (now (samples .entry)) (now (starts .entry)) (now (ends .entry)))) (givenGraph (given (now (masks .entry)) (now (values .entry)) (now (links .entry)) (now (samples .entry)) (now (starts .entry)) (now (ends .entry)))) (λ u v. false) ++ drop fixedSize (now (session .entry)) ⌝ }
 {
     session[0] = masks.len() as u32;
     session[1] = samples.len() as u32;
     session[2] = starts.len() as u32;
-    session::fill_halves(&mut session[3..19], masks);
-    session::fill_halves(&mut session[19..35], values);
-    session::fill_words(&mut session[35..51], links);
-    session::fill_halves(&mut session[51..563], samples);
-    session::fill_edges(&mut session[563..2611], starts, ends);
-    session::fill_words(&mut session[2611..3123], &links[..0]);
+    session::fill_halves(&mut session[session::MASKS_AT..session::VALUES_AT], masks);
+    session::fill_halves(&mut session[session::VALUES_AT..session::LINKS_AT], values);
+    session::fill_words(&mut session[session::LINKS_AT..session::SAMPLES_AT], links);
+    session::fill_halves(
+        &mut session[session::SAMPLES_AT..session::EDGES_AT],
+        samples,
+    );
+    session::fill_edges(
+        &mut session[session::EDGES_AT..session::MARKS_AT],
+        starts,
+        ends,
+    );
+    session::fill_words(
+        &mut session[session::MARKS_AT..session::FIXED_SIZE],
+        &links[..0],
+    );
 }
 
 // Loads a trigger and a graph: a list for each field.
@@ -161,8 +167,9 @@ pub fn load(
         return Answer::Refused(broken);
     }
     write_sections(session, masks, values, links, samples, starts, ends);
-    let before = [0u32; 512];
-    let mut table = [0u32; 512];
+    let before = [0u32; session::MAX_NODES];
+    let mut table = [0u32; session::MAX_NODES];
     let trials = solve(session, &mut table);
-    finish(session, &before, &table, trials, changes)
+    store_marks(session, &table);
+    report(session, &before, trials, changes)
 }

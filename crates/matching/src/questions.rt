@@ -1,21 +1,22 @@
 // The questions: what the marks that the session holds say, and the depth-first order.
 ghost use mathlib.Core.Path.{_≡_};
 ghost use mathlib.Core.List.{[]};
-ghost use Rattle.matching.specs.Rules.{questionRules, pairRules, verdict};
-ghost use Rattle.matching.specs.Promises.{Matches, Fires, Ordered};
-use super::Firing;
-use super::FiringAnswer;
-use super::OrderAnswer;
-use super::Standing;
-use super::StateOrder;
-use super::solve::all_marked;
+ghost use Rattle.promises.specs.Rules.{questionRules, pairRules, verdict};
+ghost use Rattle.promises.specs.Promises.{Matches, Fires, Ordered};
 use listing::depth_first::ordered;
+use promises::Firing;
+use promises::FiringAnswer;
+use promises::OrderAnswer;
+use promises::Standing;
+use promises::StateOrder;
+use reports::marks::all_marked;
+use reports::parts::links_of;
 
 // The number of the first rule that a question breaks which names no state, and 0 where it breaks none.
 pub fn question_rule(session: &[u32]) -> u8
     ensures { λ r. ⌜ r ≡ verdict (questionRules (now (session .entry)) []) ⌝ }
 {
-    if session.len() < 3123 {
+    if session.len() < session::FIXED_SIZE {
         return 3;
     }
     if !session::in_layout(session) {
@@ -52,7 +53,7 @@ pub fn matches(session: &[u32], state: u32, node: u32) -> Standing
     if broken != 0 {
         return Standing::Refused(broken);
     }
-    let at = 2611 + node as usize;
+    let at = session::MARKS_AT + node as usize;
     if bits::has(session[at], state - 1) {
         Standing::Stands
     } else {
@@ -69,8 +70,8 @@ pub fn fires(session: &[u32]) -> FiringAnswer
         return FiringAnswer::Refused(broken);
     }
     let states = session[0];
-    let end = 2611 + session[1] as usize;
-    if all_marked(&session[2611..end], states) {
+    let end = session::MARKS_AT + session[1] as usize;
+    if all_marked(&session[session::MARKS_AT..end], states) {
         FiringAnswer::Now(Firing::Fires)
     } else {
         FiringAnswer::Now(Firing::Silent)
@@ -89,8 +90,7 @@ pub fn order(session: &[u32]) -> StateOrder
         };
     }
     let count = session[0] as u8;
-    let end = 35 + session[0] as usize;
-    let states = ordered(&session[35..end]);
+    let states = ordered(links_of(session));
     StateOrder {
         answer: OrderAnswer::Listed(count),
         states,

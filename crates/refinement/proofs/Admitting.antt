@@ -24,10 +24,10 @@ use Rattle.refinement.specs.Tables.{marked, Admits, Admitted}
 
 -- ---- one number more
 
-more-here : (k : ℕ) → ltb k (k + 1) ≡ true
+pub more-here : (k : ℕ) → ltb k (k + 1) ≡ true
 more-here k = lt-ltb k (k + 1) (omega arith)
 
-more-other : (i k : ℕ) → (i ≡ k → ⊥) → ltb i (k + 1) ≡ ltb i k
+pub more-other : (i k : ℕ) → (i ≡ k → ⊥) → ltb i (k + 1) ≡ ltb i k
 more-other i k ne =
     same (ltb i (k + 1)) (ltb i k)
     (λ h. let l = ltb-true i (k + 1) h in lt-ltb i k (omega arith))
@@ -35,7 +35,7 @@ more-other i k ne =
 
 -- ---- a state: the nodes below k are seen
 
-agrees-test : (mask value sample : ℕ) → mask < 2 ^ 16 → eqb (bitAnd (bitXor value sample) mask) 0 ≡ agrees wordBits mask value sample
+pub agrees-test : (mask value sample : ℕ) → mask < 2 ^ 16 → eqb (bitAnd (bitXor value sample) mask) 0 ≡ agrees wordBits mask value sample
 unfolding agrees
 agrees-test mask value sample h = masked wordBits mask value sample h
 

@@ -129,7 +129,7 @@ module _ {es heads nexts : List ℕ} {k : ℕ} (x : Indexing es heads nexts k) w
         next = λ j l. x .next j (omega arith);
       }
 
--- ---- the predecessors of v, called in from the last edge on
+-- ---- the predecessors of v, seen from the last edge on
 
 -- w has an edge to v among those from n on
 abbrev calls : List ℕ → ℕ → ℕ → ℕ → Set
@@ -137,12 +137,6 @@ calls es v n w k = leb n k && (endsAt es v k && eqb (getD es k 0 / 512) w)
 
 pub called : List ℕ → ℕ → ℕ → Set
 called es v n w = anyBelow (length es) (calls es v n w)
-
--- n edges are left, the last of them an edge to v; the others have been called in
-pub record Calling (es : List ℕ) (v : ℕ) (ws ws' : List ℕ) (n : ℕ) : Type 0 where
-  pub within : n ≤ length es
-  pub ends : (n ≡ 0 → ⊥) → getD es (n - 1) 0 % 512 ≡ v
-  pub waiting : waits ws' ≡ (λ w. waits ws w || called es v n w)
 
 module _ (es : List ℕ) (v : ℕ) where
   called-take : (n w : ℕ) → called es v n w ≡ true
@@ -200,11 +194,57 @@ module _ (es : List ℕ) (v : ℕ) where
       start : ℕ
       start = getD es k 0 / 512
 
-  called-all : (w : ℕ) → called es v 0 w ≡ precedes es v w
+  pub called-all : (w : ℕ) → called es v 0 w ≡ precedes es v w
   unfolding called precedes
   called-all w =
       ap (anyBelow (length es))
       (fun-ext (λ k. ap (λ (b : Bool). b && (endsAt es v k && eqb (getD es k 0 / 512) w)) (le-leb 0 k zero-le)))
+
+-- n edges are left, the last of them an edge to v
+pub record Chained (es : List ℕ) (v n : ℕ) : Type 0 where
+  pub within : n ≤ length es
+  pub ends : (n ≡ 0 → ⊥) → getD es (n - 1) 0 % 512 ≡ v
+
+chained-last : (es : List ℕ) (v k : ℕ) → k ≤ length es → Chained es v (last (endsAt es v) k)
+chained-last es v k l =
+    record {
+      within = omega (arith, last-le (endsAt es v) k);
+      ends = λ some. eqb-true (getD es (last (endsAt es v) k - 1) 0 % 512) v (last-at (endsAt es v) k some);
+    }
+
+module _ {es heads nexts : List ℕ} (x : Indexed es heads nexts) where
+  pub chained-head : (v : ℕ) → v < 512 → Chained es v (getD heads v 0)
+  chained-head v h = rw (x .head v h) (chained-last es v (length es) (omega arith))
+
+  pub called-head : (v w : ℕ) → v < 512 → called es v (getD heads v 0) w ≡ false
+  called-head v w h = rw (x .head v h) (called-none es v w)
+
+  module _ {v n : ℕ} (y : Chained es v n) (some : n ≡ 0 → ⊥) where
+    -- the edge before n, and what the index has there
+    at : (n - 1 < length es) × (endsAt es v (n - 1) ≡ true) × (getD nexts (n - 1) 0 ≡ last (endsAt es v) (n - 1))
+    at =
+        let l : n - 1 < length es = omega (arith, some, y .within) in
+        (l, eq-eqb (getD es (n - 1) 0 % 512) v (y .ends some), rw (← y .ends some) (x .next (n - 1) l))
+
+    pub chained-less : getD nexts (n - 1) 0 < n
+    chained-less = rw (at .2) (omega (arith, some, last-le (endsAt es v) (n - 1)))
+
+    pub chained-next : Chained es v (getD nexts (n - 1) 0)
+    chained-next = rw (at .2) (chained-last es v (n - 1) (omega (arith, at .0)))
+
+    pub called-next : (w : ℕ) → called es v (getD nexts (n - 1) 0) w ≡ (called es v n w || eqb w (getD es (n - 1) 0 / 512))
+    called-next w =
+        let back : n - 1 + 1 ≡ n = omega (arith, some) in
+        ap (λ (m : ℕ). called es v m w) (at .2)
+        ∙ called-more es v (n - 1) (at .0) (at .1) w
+        ∙ ap (λ (m : ℕ). called es v m w || eqb w (getD es (n - 1) 0 / 512)) back
+
+-- ---- the predecessors called in
+
+-- those by the edges that are not left wait
+pub record Calling (es : List ℕ) (v : ℕ) (ws ws' : List ℕ) (n : ℕ) : Type 0 where
+  pub chain : Chained es v n
+  pub waiting : waits ws' ≡ (λ w. waits ws w || called es v n w)
 
 pub calling-done : {es : List ℕ} {v : ℕ} {ws ws' : List ℕ} → Calling es v ws ws' 0 → waits ws' ≡ (λ w. waits ws w || precedes es v w)
 calling-done {es} {v} {ws} y = y .waiting ∙ fun-ext (λ w. ap (λ (b : Bool). waits ws w || b) (called-all es v w))
@@ -212,47 +252,25 @@ calling-done {es} {v} {ws} y = y .waiting ∙ fun-ext (λ w. ap (λ (b : Bool). 
 module _ {es heads nexts : List ℕ} (x : Indexed es heads nexts) where
   pub calling-none : (v : ℕ) (ws : List ℕ) → v < 512 → Calling es v ws ws (getD heads v 0)
   calling-none v ws h =
-      rw (x .head v h)
       record {
-        within = last-le (endsAt es v) (length es);
-        ends = λ some. eqb-true (getD es (n - 1) 0 % 512) v (last-at (endsAt es v) (length es) some);
-        waiting = fun-ext (λ w. sym (ap (λ (b : Bool). waits ws w || b) (called-none es v w) ∙ or-false (waits ws w)));
+        chain = chained-head x v h;
+        waiting = fun-ext (λ w. sym (ap (λ (b : Bool). waits ws w || b) (called-head x v w h) ∙ or-false (waits ws w)));
+      }
+
+  pub calling-more : {v n : ℕ} {ws ws' ws'' : List ℕ} → Calling es v ws ws' n → (n ≡ 0 → ⊥) → waits ws'' ≡ also (waits ws') (getD es (n - 1) 0 / 512)
+      → Calling es v ws ws'' (getD nexts (n - 1) 0)
+  calling-more {v} {n} {ws} {ws'} {ws''} y some e =
+      record {
+        chain = chained-next x (y .chain) some;
+        waiting = fun-ext now;
       }
     where
-      n : ℕ
-      n = last (endsAt es v) (length es)
+      start : ℕ
+      start = getD es (n - 1) 0 / 512
 
-  module _ {v n : ℕ} {ws ws' : List ℕ} (y : Calling es v ws ws' n) where
-    -- the edge before n, and what the index has there
-    at : (n ≡ 0 → ⊥) → (n - 1 < length es) × (endsAt es v (n - 1) ≡ true) × (getD nexts (n - 1) 0 ≡ last (endsAt es v) (n - 1))
-    at some =
-        let l : n - 1 < length es = omega (arith, some, y .within) in
-        (l, eq-eqb (getD es (n - 1) 0 % 512) v (y .ends some), rw (← y .ends some) (x .next (n - 1) l))
-
-    pub calling-less : (n ≡ 0 → ⊥) → getD nexts (n - 1) 0 < n
-    calling-less some = rw (at some .2) (omega (arith, some, last-le (endsAt es v) (n - 1)))
-
-    pub calling-more : {ws'' : List ℕ} → (n ≡ 0 → ⊥) → waits ws'' ≡ also (waits ws') (getD es (n - 1) 0 / 512)
-        → Calling es v ws ws'' (getD nexts (n - 1) 0)
-    calling-more {ws''} some e =
-        rw (at some .2)
-        record {
-          within = omega (arith, last-le (endsAt es v) (n - 1), at some .0);
-          ends = λ more. eqb-true (getD es (n' - 1) 0 % 512) v (last-at (endsAt es v) (n - 1) more);
-          waiting = fun-ext now;
-        }
-      where
-        n' : ℕ
-        n' = last (endsAt es v) (n - 1)
-
-        start : ℕ
-        start = getD es (n - 1) 0 / 512
-
-        now : (w : ℕ) → waits ws'' w ≡ (waits ws w || called es v n' w)
-        now w =
-            let back : n - 1 + 1 ≡ n = omega (arith, some) in
-            ap (λ (X : Set). X w) e
-            ∙ ap (λ (X : Set). X w || eqb w start) (y .waiting)
-            ∙ or-assoc (waits ws w) (called es v n w) (eqb w start)
-            ∙ ap (λ (b : Bool). waits ws w || b)
-            (sym (called-more es v (n - 1) (at some .0) (at some .1) w ∙ ap (λ (m : ℕ). called es v m w || eqb w start) back))
+      now : (w : ℕ) → waits ws'' w ≡ (waits ws w || called es v (getD nexts (n - 1) 0) w)
+      now w =
+          ap (λ (X : Set). X w) e
+          ∙ ap (λ (X : Set). X w || eqb w start) (y .waiting)
+          ∙ or-assoc (waits ws w) (called es v n w) (eqb w start)
+          ∙ ap (λ (b : Bool). waits ws w || b) (sym (called-next x (y .chain) some w))

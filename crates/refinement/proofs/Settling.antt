@@ -22,7 +22,7 @@ use Rattle.simulation.proofs.Pattern.{pair-state, pair-node, pair-inside, pair-
 use Rattle.simulation.proofs.Loops.{without-falls}
 use Rattle.simulation.proofs.Search.{found-make, found-take, first-at, first-before}
 use Rattle.simulation.proofs.Ordered.{Rising, rising-take, elem-at, elem-index}
-use Rattle.simulation.proofs.Edges.{all-same, elem-joins, from-le, from-mono, supported-edges}
+use Rattle.simulation.proofs.Edges.{all-same, elem-joins, joins-elem, from-le, from-mono, supported-edges}
 use Rattle.bits.specs.Word.{members}
 use Rattle.bits.proofs.Words.{same-below}
 use Rattle.session.specs.Limits.{maxNodes}
@@ -71,7 +71,7 @@ below-power : (w : ℕ) → w < 2 ^ w
 below-power zero = omega arith
 below-power (suc w) = omega (arith, below-power w, pow-suc 2 w)
 
-fewer : (a b : ℕ) → ((u : ℕ) → members b u ≡ true → members a u ≡ true) → (b ≡ a → ⊥) → (u : ℕ) × (members a u ≡ true) × (members b u ≡ false)
+pub fewer : (a b : ℕ) → ((u : ℕ) → members b u ≡ true → members a u ≡ true) → (b ≡ a → ⊥) → (u : ℕ) × (members a u ≡ true) × (members b u ≡ false)
 fewer a b sub ne = ⊎-elim some none (split (anyBelow k test))
   where
     k : ℕ
@@ -114,7 +114,7 @@ module _ (nodes : ℕ) (links es : List ℕ) (sound : Sound nodes links es) wher
   ends-inside e h = let w = elem-index e es h in rw (← w .2) (sound .ends (w .0) (w .1))
 
   -- an edge from w to v is seen by v
-  joins-precedes : (w v : ℕ) → joins maxNodes es w v ≡ true → precedes es v w ≡ true
+  pub joins-precedes : (w v : ℕ) → joins maxNodes es w v ≡ true → precedes es v w ≡ true
   unfolding precedes
   joins-precedes w v h =
       let j = elem-joins maxNodes es w v h in
@@ -124,6 +124,16 @@ module _ (nodes : ℕ) (links es : List ℕ) (sound : Sound nodes links es) wher
       let at-start : getD es k 0 / maxNodes ≡ w = rw (i .2) (omega (arith, j .0)) in
       any-make (length es) (λ k. endsAt es v k && eqb (getD es k 0 / maxNodes) w) k (i .1)
       (and-make (eq-eqb (getD es k 0 % maxNodes) v at-end) (eq-eqb (getD es k 0 / maxNodes) w at-start))
+
+  pub precedes-joins : (w v : ℕ) → precedes es v w ≡ true → joins maxNodes es w v ≡ true
+  unfolding precedes
+  precedes-joins w v h =
+      let r = any-take (length es) (λ k. endsAt es v k && eqb (getD es k 0 / maxNodes) w) h in
+      let k = r .0 in
+      let e = getD es k 0 in
+      let at-end : e % maxNodes ≡ v = eqb-true (e % maxNodes) v (and-l (endsAt es v k) (eqb (e / maxNodes) w) (r .2)) in
+      let at-start : e / maxNodes ≡ w = eqb-true (e / maxNodes) w (and-r (endsAt es v k) (eqb (e / maxNodes) w) (r .2)) in
+      rw (at-start, at-end) at (joins-elem maxNodes es e (omega arith) (elem-at es k (r .1)))
 
   module _ (ss : List ℕ) where
     abbrev S : Set
@@ -146,6 +156,15 @@ module _ (nodes : ℕ) (links es : List ℕ) (sound : Sound nodes links es) wher
         (fun-ext (λ w. sym (ap₂ _||_ (paired-pair P (marked ss) o w k) (paired-pair P (marked ts) o w k))))))
         ∙ sym (supported-edges maxNodes es rising nodes ends-inside n (λ u o. members (getD links u 0) o) (λ u v. true) (union S (T ts)) u v l)
 
+    -- and so for the states that a node keeps
+    pub kept-supported : (ts : List ℕ) (u v : ℕ) → u < length links
+        → keptOf (getD ts v 0) links (edgesFrom es v) ss ts u
+        ≡ (marked ts u v
+        && supported (system (patternOf nodes links es)) (union (tabled nodes links es ss) (tabled nodes links es ts)) (pair (patternOf nodes links es) u v))
+    kept-supported ts u v l =
+        ap (λ (b : Bool). marked ts u v && (not b || whole n (getD links u 0) (edgesFrom es v) ss ts)) (lt-ltb u n l)
+        ∙ ap (λ (b : Bool). marked ts u v && b) (whole-supported ts u v l)
+
     module _ (ts ws : List ℕ) (v : ℕ) (ts' ws' : List ℕ) (turned : Turned links es ss ts ws v ts' ws') where
       state-of : (p : ℕ) → p % n < n
       state-of p = mod-lt p (sound .some-state)
@@ -158,11 +177,8 @@ module _ (nodes : ℕ) (links es : List ℕ) (sound : Sound nodes links es) wher
           let at-v : T ts' p ≡ members (getD ts' v 0) u = ap (λ (x : ℕ). members (getD ts' x 0) u) e in
           let was : T ts p ≡ members (getD ts v 0) u = ap (λ (x : ℕ). members (getD ts x 0) u) e in
           let kept : members (getD ts' v 0) u ≡ keptOf (getD ts v 0) links (edgesFrom es v) ss ts u = ap (λ (X : Set). X u) (turned .here) in
-          let inside : keptOf (getD ts v 0) links (edgesFrom es v) ss ts u ≡ (members (getD ts v 0) u && whole n (getD links u 0) (edgesFrom es v) ss ts) =
-          ap (λ (b : Bool). members (getD ts v 0) u && (not b || whole n (getD links u 0) (edgesFrom es v) ss ts)) (lt-ltb u n l) in
           let is : pair P u v ≡ p = ap (λ (x : ℕ). x * n + u) (sym e) ∙ pair-whole P p in
-          at-v ∙ kept ∙ inside
-          ∙ ap₂ _&&_ (sym was) (whole-supported ts u v l ∙ ap (supported s (union S (T ts))) is)
+          at-v ∙ kept ∙ kept-supported ts u v l ∙ ap₂ _&&_ (sym was) (ap (supported s (union S (T ts))) is)
 
       left-away : (p : ℕ) → (p / n ≡ v → ⊥) → T ts' p ≡ T ts p
       left-away p ne = ap (λ (x : ℕ). members x (p % n)) (turned .others (p / n) ne)

@@ -39,13 +39,15 @@ sound-wider nodes links es s = record {
   ends = λ k l. omega (arith, s .ends k l, s .few-nodes);
 }
 
-module _ (links es ss ts ws : List ℕ) (v : ℕ) (inside : v < length ts) (ws₁ : List ℕ) (long : length ws₁ ≡ length ws)
-    (out : waits ws₁ ≡ without (waits ws) v) (low high left : ℕ) (low-is : low ≡ from maxNodes es v) (high-is : high ≡ from maxNodes es (v + 1))
-    (kept : members left ≡ keptOf (getD ts v 0) links (take (high - low) (drop low es)) ss ts) where
-  kept-here : members left ≡ keptOf (getD ts v 0) links (edgesFrom es v) ss ts
-  unfolding edgesFrom
-  kept-here = rw (low-is, high-is) at kept
+-- the edges of v, by the two ends of their range
+pub kept-range : (links es ss ts : List ℕ) (v low high left : ℕ) → low ≡ from maxNodes es v → high ≡ from maxNodes es (v + 1)
+    → members left ≡ keptOf (getD ts v 0) links (take (high - low) (drop low es)) ss ts
+    → members left ≡ keptOf (getD ts v 0) links (edgesFrom es v) ss ts
+unfolding edgesFrom
+kept-range links es ss ts v low high left low-is high-is kept = rw (low-is, high-is) at kept
 
+module _ (links es ss ts ws : List ℕ) (v : ℕ) (inside : v < length ts) (ws₁ : List ℕ) (long : length ws₁ ≡ length ws)
+    (out : waits ws₁ ≡ without (waits ws) v) (left : ℕ) (kept : members left ≡ keptOf (getD ts v 0) links (edgesFrom es v) ss ts) where
   -- pairs were cleared, and the predecessors are called in
   pub turned-cleared : (ws' : List ℕ) → length ws' ≡ length ws → (left ≡ getD ts v 0 → ⊥) → waits ws' ≡ (λ w. waits ws₁ w || precedes es v w)
       → Turned links es ss ts ws v (set ts v left) ws'
@@ -55,7 +57,7 @@ module _ (links es ss ts ws : List ℕ) (v : ℕ) (inside : v < length ts) (ws�
         table-long = length-set ts v left;
         waits-long = long';
         others = λ w away. getD-set-other ts v w left 0 away;
-        here = ap members here ∙ kept-here;
+        here = ap members here ∙ kept;
         waiting = called
             ∙ fun-ext
             (λ w.
@@ -69,7 +71,7 @@ module _ (links es ss ts ws : List ℕ) (v : ℕ) (inside : v < length ts) (ws�
     table-long = refl;
     waits-long = long;
     others = λ w away. refl;
-    here = ap members (sym e) ∙ kept-here;
+    here = ap members (sym e) ∙ kept;
     waiting = out
         ∙ fun-ext
         (λ w.

@@ -5,12 +5,16 @@ ghost use Prim.Native.Nat.{ℕ, _<_, _≤_};
 ghost use lib.ListN.{length, getD};
 ghost use Rattle.simulation.specs.Sets.{also, without};
 ghost use Rattle.simulation.specs.Search.{first};
+ghost use Rattle.session.specs.Limits.{maxEdges, maxNodes};
 ghost use Rattle.session.specs.Layout.{below};
 ghost use Rattle.refinement.specs.Tables.{waits, Indexed, precedes};
 
+// A bit for each node.
+pub const WAITING_WORDS: usize = 16;
+
 // Puts a node in.
 pub fn put_in(waiting: &mut [u32], node: usize)
-    requires { ⌜ (length (now waiting) ≡ 16) × (node < 512) ⌝ }
+    requires { ⌜ (length (now waiting) ≡ 16) × (node < maxNodes) ⌝ }
     ensures { λ r. ⌜ (length (now (waiting .exit)) ≡ 16) × (waits (now (waiting .exit)) ≡ also (waits (now (waiting .entry))) node) ⌝ }
 {
     waiting[node / 32] = bits::added(waiting[node / 32], (node % 32) as u32);
@@ -18,7 +22,7 @@ pub fn put_in(waiting: &mut [u32], node: usize)
 
 // Takes a node out.
 pub fn take_out(waiting: &mut [u32], node: usize)
-    requires { ⌜ (length (now waiting) ≡ 16) × (node < 512) ⌝ }
+    requires { ⌜ (length (now waiting) ≡ 16) × (node < maxNodes) ⌝ }
     ensures { λ r. ⌜ (length (now (waiting .exit)) ≡ 16) × (waits (now (waiting .exit)) ≡ without (waits (now (waiting .entry))) node) ⌝ }
 {
     waiting[node / 32] = bits::removed(waiting[node / 32], (node % 32) as u32);
@@ -27,28 +31,28 @@ pub fn take_out(waiting: &mut [u32], node: usize)
 // The lowest node that waits, and 512 where none does.
 pub fn lowest_in(waiting: &[u32]) -> usize
     requires { ⌜ length (now waiting) ≡ 16 ⌝ }
-    ensures { λ r. ⌜ r ≡ first (waits (now (waiting .entry))) 0 512 ⌝ }
+    ensures { λ r. ⌜ r ≡ first (waits (now (waiting .entry))) 0 maxNodes ⌝ }
 {
     let mut i = 0;
-    while i < 16 {
+    while i < WAITING_WORDS {
         let word = waiting[i];
         if word != 0 {
             return i * 32 + bits::lowest(word) as usize;
         }
         i += 1;
     }
-    512
+    session::MAX_NODES
 }
 
 // Builds the index in tables that are zero.
 pub fn index(edges: &[u32], heads: &mut [u32], nexts: &mut [u32])
-    requires { ⌜ (length (now edges) ≤ 2048) × (length (now heads) ≡ 512) × (length (now nexts) ≡ 2048) ⌝ }
+    requires { ⌜ (length (now edges) ≤ maxEdges) × (length (now heads) ≡ maxNodes) × (length (now nexts) ≡ maxEdges) ⌝ }
     requires { ⌜ ((v : ℕ) → getD (now heads) v 0 ≡ 0) ⌝ }
     ensures { λ r. ⌜ Indexed (now (edges .entry)) (now (heads .exit)) (now (nexts .exit)) ⌝ }
 {
     let mut k = 0;
     while k < edges.len() {
-        let end = (edges[k] % 512) as usize;
+        let end = (edges[k] % session::EDGE_BASE) as usize;
         nexts[k] = heads[end];
         heads[end] = (k + 1) as u32;
         k += 1;
@@ -57,14 +61,14 @@ pub fn index(edges: &[u32], heads: &mut [u32], nexts: &mut [u32])
 
 // Puts every node in that has an edge to this one.
 pub fn call_in(waiting: &mut [u32], edges: &[u32], heads: &[u32], nexts: &[u32], node: usize)
-    requires { ⌜ (length (now waiting) ≡ 16) × (node < 512) × (length (now edges) ≤ 2048) ⌝ }
+    requires { ⌜ (length (now waiting) ≡ 16) × (node < maxNodes) × (length (now edges) ≤ maxEdges) ⌝ }
     requires { ⌜ (below 262144 (now edges) ≡ true) × Indexed (now edges) (now heads) (now nexts) ⌝ }
     ensures { λ r. ⌜ (length (now (waiting .exit)) ≡ 16) × (waits (now (waiting .exit)) ≡ (λ w. waits (now (waiting .entry)) w || precedes (now (edges .entry)) node w)) ⌝ }
 {
     let mut next = heads[node] as usize;
     while next != 0 {
         let k = next - 1;
-        put_in(waiting, (edges[k] / 512) as usize);
+        put_in(waiting, (edges[k] / session::EDGE_BASE) as usize);
         next = nexts[k] as usize;
     }
 }

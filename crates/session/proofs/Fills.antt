@@ -2,9 +2,10 @@
 use Prim.Native.Nat.{ℕ, zero, suc, _+_, _<_, _≤_}
 use native.Mathlib.Numerals.{add-one}
 use native.Mathlib.Omega.{arith}
-use mathlib.Core.Path.{_≡_, refl, ap, _∙_}
+use mathlib.Core.Path.{_≡_, refl, sym, ap, _∙_, subst}
 use mathlib.Core.List.{List, [], _∷_, _++_, append-nil}
-use lib.ListN.{length, drop, set, length-set, drop-of-length-le}
+use lib.ListN.{length, getD, drop, set, length-set, drop-of-length-le}
+use lib.Seq.{set-getD}
 use Rattle.session.specs.Layout.{table}
 
 -- the first i places hold the table of f, the others what they held at entry
@@ -32,6 +33,11 @@ module _ (f : ℕ → ℕ) (entry : List ℕ) where
     long = length-set place i x ∙ h .long;
     holds = rw (add-one, e, h .holds) (store i f entry l);
   }
+
+  -- a place that holds its entry already may stay
+  pub fill-kept : (place : List ℕ) (i : ℕ) → Filled f entry place i → i < length entry → getD place i 0 ≡ f i → Filled f entry place (i + 1)
+  fill-kept place i h l e =
+      subst (λ (xs : List ℕ). Filled f entry xs (i + 1)) (ap (set place i) (sym e) ∙ set-getD place i 0) (fill-step place i (f i) h l refl)
 
   pub fill-end : (place : List ℕ) (i : ℕ) → Filled f entry place i → length entry ≤ i → place ≡ table (length entry) f
   fill-end place i h l =

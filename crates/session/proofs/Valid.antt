@@ -10,7 +10,7 @@ use lib.ListN.{length, getD}
 use lib.Pow.{pow-pos}
 use borrow.Author.Tests.{ltb-true, lt-ltb, leb-true, le-leb, eqb-true, eq-eqb}
 use Rattle.simulation.specs.Sets.{allBelow}
-use Rattle.simulation.specs.Ordered.{elem, ascends, insert, remove}
+use Rattle.simulation.specs.Ordered.{elem, ascends}
 use Rattle.simulation.proofs.Terms.{joined}
 use Rattle.simulation.proofs.Sets.{clash, refuted, and-make, and-l, and-r, implies-make, implies-take, all-make, all-take}
 use Rattle.simulation.proofs.Ordered.{
@@ -29,7 +29,7 @@ use Rattle.simulation.proofs.Ordered.{
 use Rattle.simulation.proofs.Edges.{elem-joins, joins-make, joins-insert, joins-remove}
 use Rattle.bits.proofs.Words.{members-below}
 use Rattle.session.specs.Limits.{maxStates, maxNodes, maxEdges, wordBits}
-use Rattle.session.specs.Trigger.{Trigger, Graph, Marks, states, nodes, linked, edge, edgeNumber, admits}
+use Rattle.session.specs.Trigger.{Trigger, Graph, Marks, states, nodes, linked, edge, edgeNumber, withEdge, withoutEdge, admits}
 use Rattle.session.specs.Layout.{below, validTrigger, names, validGraph, validMarks}
 use Rattle.session.proofs.Tables.{below-at}
 
@@ -160,17 +160,17 @@ module _ (g : Graph) where
 
 module _ (g : Graph) (a b : ℕ) where
   -- the edges then
-  pub edge-insert : b < maxNodes → edge (record { samples = g .samples; edges = insert (edgeNumber a b) (g .edges) }) ≡ joined (edge g) a b
+  pub edge-insert : b < maxNodes → edge (withEdge g a b) ≡ joined (edge g) a b
   unfolding edge
   edge-insert l = joins-insert maxNodes (g .edges) a b l
 
-  pub edge-remove : edge g a b ≡ true → joined (edge (record { samples = g .samples; edges = remove (edgeNumber a b) (g .edges) })) a b ≡ edge g
+  pub edge-remove : edge g a b ≡ true → joined (edge (withoutEdge g a b)) a b ≡ edge g
   unfolding edge
   edge-remove h = joins-remove maxNodes (g .edges) a b (elem-joins maxNodes (g .edges) a b h .0) h
 
   -- the graph stays valid, where the edge is new and there is room; with one less always
   pub graph-insert : GraphFacts g → a < nodes g → b < nodes g → edge g a b ≡ false → length (g .edges) < maxEdges
-      → GraphFacts (record { samples = g .samples; edges = insert (edgeNumber a b) (g .edges) })
+      → GraphFacts (withEdge g a b)
   unfolding edge
   graph-insert f la lb new room =
       let width : b < maxNodes = omega (arith, f .few) in
@@ -186,7 +186,7 @@ module _ (g : Graph) (a b : ℕ) where
             (refuted (elem (edgeNumber a b) (g .edges)) (λ m. clash (joins-make maxNodes (g .edges) a b width m) new));
       }
 
-  pub graph-remove : GraphFacts g → GraphFacts (record { samples = g .samples; edges = remove (edgeNumber a b) (g .edges) })
+  pub graph-remove : GraphFacts g → GraphFacts (withoutEdge g a b)
   graph-remove f = record {
     few = f .few;
     samples-fit = f .samples-fit;

@@ -5,7 +5,7 @@ use mathlib.Core.List.{List}
 use lib.Dec.{eqb}
 use lib.ListN.{length, getD}
 use Rattle.simulation.specs.Sets.{allBelow}
-use Rattle.simulation.specs.Ordered.{joins}
+use Rattle.simulation.specs.Ordered.{insert, remove, joins}
 use Rattle.simulation.specs.Pattern.{Pattern, plain}
 use Rattle.bits.specs.Word.{bit, members}
 use Rattle.session.specs.Limits.{maxNodes, wordBits}
@@ -41,6 +41,13 @@ edgeNumber v w = v * maxNodes + w
 
 unfoldable pub edge : Graph → ℕ → ℕ → Bool
 edge g v w = joins maxNodes (g .edges) v w
+
+-- the graph with the edge from a to b put in, or taken out
+abbrev pub withEdge : Graph → ℕ → ℕ → Graph
+withEdge g a b = record { samples = g .samples; edges = insert (edgeNumber a b) (g .edges) }
+
+abbrev pub withoutEdge : Graph → ℕ → ℕ → Graph
+withoutEdge g a b = record { samples = g .samples; edges = remove (edgeNumber a b) (g .edges) }
 
 -- "value and sample agree in every bit that is 1 in the mask", for words of k bits
 unfoldable pub agrees : ℕ → ℕ → ℕ → ℕ → Bool

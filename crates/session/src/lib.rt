@@ -2,19 +2,27 @@
 ghost use mathlib.Core.Path.{_≡_};
 ghost use mathlib.Core.Bool.{true, not, _&&_};
 ghost use Prim.Native.Nat.{ℕ, _+_, _^_, _<_, _≤_};
+ghost use lib.Dec.{leb};
 ghost use lib.ListN.{length, getD};
 ghost use Rattle.simulation.specs.Sets.{allBelow, anyBelow};
+ghost use Rattle.simulation.specs.Search.{first};
 ghost use Rattle.simulation.specs.Ordered.{ascends, from};
 ghost use Rattle.bits.specs.Word.{members};
+ghost use Rattle.session.specs.Limits.{fixedSize, maxEdges, maxNodes, maxStates, wordBits};
 ghost use Rattle.session.specs.Trigger.{agrees};
 ghost use Rattle.session.specs.Layout.{section, part, below, inLayout};
 ghost use Rattle.session.specs.Tests.{fits, allNamed, sparse, numbered, triggerTest, graphTest, marksTest};
 
+// The limits, and the places of the sections. An edge is the number start * EDGE_BASE + end.
 pub const MAX_STATES: usize = 16;
 
 pub const MAX_NODES: usize = 512;
 
 pub const MAX_EDGES: usize = 2048;
+
+pub const EDGE_BASE: u32 = 512;
+
+pub const WORD_BITS: u32 = 16;
 
 pub const MAX_CHANGES: usize = 8192;
 
@@ -60,31 +68,35 @@ pub fn fill_halves(place: &mut [u32], source: &[u16])
     }
 }
 
+// The same of words, which are written only where they differ.
 pub fn fill_words(place: &mut [u32], source: &[u32])
     ensures { λ r. ⌜ now (place .exit) ≡ section (length (now (place .entry))) (now (source .entry)) ⌝ }
 {
     let mut i = 0;
     while i < place.len() {
-        place[i] = word_at(source, i);
+        let word = word_at(source, i);
+        if place[i] != word {
+            place[i] = word;
+        }
         i += 1;
     }
 }
 
 // The number of the edge k, and 0 past the end.
 pub fn edge_at(starts: &[u32], ends: &[u32], k: usize) -> u32
-    requires { ⌜ (below 512 (now starts) ≡ true) × (below 512 (now ends) ≡ true) ⌝ }
+    requires { ⌜ (below maxNodes (now starts) ≡ true) × (below maxNodes (now ends) ≡ true) ⌝ }
     requires { ⌜ length (now ends) ≡ length (now starts) ⌝ }
     ensures { λ r. ⌜ r ≡ getD (numbered (now (starts .entry)) (now (ends .entry))) k 0 ⌝ }
 {
     if k < starts.len() {
-        starts[k] * 512 + ends[k]
+        starts[k] * EDGE_BASE + ends[k]
     } else {
         0
     }
 }
 
 pub fn fill_edges(place: &mut [u32], starts: &[u32], ends: &[u32])
-    requires { ⌜ (below 512 (now starts) ≡ true) × (below 512 (now ends) ≡ true) ⌝ }
+    requires { ⌜ (below maxNodes (now starts) ≡ true) × (below maxNodes (now ends) ≡ true) ⌝ }
     requires { ⌜ length (now ends) ≡ length (now starts) ⌝ }
     ensures { λ r. ⌜ now (place .exit) ≡ section (length (now (place .entry))) (numbered (now (starts .entry)) (now (ends .entry))) ⌝ }
 {
@@ -128,10 +140,10 @@ pub fn all_named(edges: &[u32], nodes: u32) -> bool
     let mut k = 0;
     while k < edges.len() {
         let edge = edges[k];
-        if nodes <= edge / 512 {
+        if nodes <= edge / EDGE_BASE {
             faults = 1;
         }
-        if nodes <= edge % 512 {
+        if nodes <= edge % EDGE_BASE {
             faults = 1;
         }
         k += 1;
@@ -156,8 +168,8 @@ pub fn all_ascend(edges: &[u32]) -> bool
 
 // The marks at nodes whose sample the mask and the value do not admit.
 pub fn strays(samples: &[u32], marks: &[u32], mask: u32, value: u32) -> u32
-    requires { ⌜ (length (now samples) ≡ length (now marks)) × (mask < 2 ^ 16) ⌝ }
-    ensures { λ r. ⌜ members r ≡ (λ u. anyBelow (length (now (marks .entry))) (λ v. members (getD (now (marks .entry)) v 0) u && not (agrees 16 mask value (getD (now (samples .entry)) v 0)))) ⌝ }
+    requires { ⌜ (length (now samples) ≡ length (now marks)) × (mask < 2 ^ wordBits) ⌝ }
+    ensures { λ r. ⌜ members r ≡ (λ u. anyBelow (length (now (marks .entry))) (λ v. members (getD (now (marks .entry)) v 0) u && not (agrees wordBits mask value (getD (now (samples .entry)) v 0)))) ⌝ }
 {
     let mut all = 0;
     let mut v = 0;
@@ -173,7 +185,7 @@ pub fn strays(samples: &[u32], marks: &[u32], mask: u32, value: u32) -> u32
 // Whether each mark is at a node that its state admits.
 pub fn all_admitted(masks: &[u32], values: &[u32], samples: &[u32], marks: &[u32]) -> bool
     requires { ⌜ (length (now samples) ≡ length (now marks)) × (length (now values) ≡ length (now masks)) × (length (now masks) ≤ 32) ⌝ }
-    requires { ⌜ below (2 ^ 16) (now masks) ≡ true ⌝ }
+    requires { ⌜ below (2 ^ wordBits) (now masks) ≡ true ⌝ }
     ensures { λ r. ⌜ r ≡ allBelow (length (now (masks .entry))) (λ u. sparse (now (samples .entry)) (now (marks .entry)) (getD (now (masks .entry)) u 0) (getD (now (values .entry)) u 0) u) ⌝ }
 {
     let mut faults: u32 = 0;
@@ -188,12 +200,11 @@ pub fn all_admitted(masks: &[u32], values: &[u32], samples: &[u32], marks: &[u32
     faults == 0
 }
 
-// The index of the first edge that starts at v or after it, by halving.
-pub fn first_edge(edges: &[u32], v: u32) -> usize
-    requires { ⌜ (ascends (now edges) ≡ true) × (v ≤ 512) ⌝ }
-    ensures { λ r. ⌜ r ≡ from 512 (now (edges .entry)) v ⌝ }
+// The index of the first edge that is not below the code, by halving.
+pub fn place_of(edges: &[u32], code: u32) -> usize
+    requires { ⌜ ascends (now edges) ≡ true ⌝ }
+    ensures { λ r. ⌜ r ≡ first (λ k. leb code (getD (now (edges .entry)) k 0)) 0 (length (now (edges .entry))) ⌝ }
 {
-    let code = v * 512;
     let mut low = 0;
     let mut high = edges.len();
     while low < high {
@@ -207,43 +218,52 @@ pub fn first_edge(edges: &[u32], v: u32) -> usize
     low
 }
 
+// The index of the first edge that starts at v or after it.
+pub fn first_edge(edges: &[u32], v: u32) -> usize
+    requires { ⌜ (ascends (now edges) ≡ true) × (v ≤ maxNodes) ⌝ }
+    ensures { λ r. ⌜ r ≡ from maxNodes (now (edges .entry)) v ⌝ }
+{
+    place_of(edges, v * EDGE_BASE)
+}
+
 // Whether the sections of the trigger fit.
 pub fn trigger_fits(session: &[u32], states: usize) -> bool
-    requires { ⌜ (3123 ≤ length (now session)) × (states ≤ 16) ⌝ }
+    requires { ⌜ (fixedSize ≤ length (now session)) × (states ≤ maxStates) ⌝ }
     ensures { λ r. ⌜ r ≡ triggerTest (now (session .entry)) states ⌝ }
 {
-    section_fits(&session[3..19], states, 16)
-        && (section_fits(&session[19..35], states, 16)
-            && section_fits(&session[35..51], states, states as u32))
+    section_fits(&session[MASKS_AT..VALUES_AT], states, WORD_BITS)
+        && (section_fits(&session[VALUES_AT..LINKS_AT], states, WORD_BITS)
+            && section_fits(&session[LINKS_AT..SAMPLES_AT], states, states as u32))
 }
 
 // Whether the sections of the graph fit.
 pub fn graph_fits(session: &[u32], nodes: usize, edges: usize) -> bool
-    requires { ⌜ (3123 ≤ length (now session)) × (nodes ≤ 512) × (edges ≤ 2048) ⌝ }
+    requires { ⌜ (fixedSize ≤ length (now session)) × (nodes ≤ maxNodes) × (edges ≤ maxEdges) ⌝ }
     ensures { λ r. ⌜ r ≡ graphTest (now (session .entry)) nodes edges ⌝ }
 {
-    let end = 563 + edges;
-    section_fits(&session[51..563], nodes, 16)
-        && (all_below(&session[end..2611], 1)
-            && (all_named(&session[563..end], nodes as u32) && all_ascend(&session[563..end])))
+    let end = EDGES_AT + edges;
+    section_fits(&session[SAMPLES_AT..EDGES_AT], nodes, WORD_BITS)
+        && (all_below(&session[end..MARKS_AT], 1)
+            && (all_named(&session[EDGES_AT..end], nodes as u32)
+                && all_ascend(&session[EDGES_AT..end])))
 }
 
 // Whether the marks fit.
 pub fn marks_fit(session: &[u32], states: usize, nodes: usize) -> bool
-    requires { ⌜ (3123 ≤ length (now session)) × (states ≤ 16) × (nodes ≤ 512) ⌝ }
-    requires { ⌜ below (2 ^ 16) (part (now session) 3 states) ≡ true ⌝ }
+    requires { ⌜ (fixedSize ≤ length (now session)) × (states ≤ maxStates) × (nodes ≤ maxNodes) ⌝ }
+    requires { ⌜ below (2 ^ wordBits) (part (now session) 3 states) ≡ true ⌝ }
     ensures { λ r. ⌜ r ≡ marksTest (now (session .entry)) states nodes ⌝ }
 {
-    let masks_end = 3 + states;
-    let values_end = 19 + states;
-    let samples_end = 51 + nodes;
-    let marks_end = 2611 + nodes;
-    section_fits(&session[2611..3123], nodes, states as u32)
+    let masks_end = MASKS_AT + states;
+    let values_end = VALUES_AT + states;
+    let samples_end = SAMPLES_AT + nodes;
+    let marks_end = MARKS_AT + nodes;
+    section_fits(&session[MARKS_AT..FIXED_SIZE], nodes, states as u32)
         && all_admitted(
-            &session[3..masks_end],
-            &session[19..values_end],
-            &session[51..samples_end],
-            &session[2611..marks_end],
+            &session[MASKS_AT..masks_end],
+            &session[VALUES_AT..values_end],
+            &session[SAMPLES_AT..samples_end],
+            &session[MARKS_AT..marks_end],
         )
 }
 
@@ -251,7 +271,7 @@ pub fn marks_fit(session: &[u32], states: usize, nodes: usize) -> bool
 pub fn in_layout(session: &[u32]) -> bool
     ensures { λ r. ⌜ r ≡ inLayout (now (session .entry)) ⌝ }
 {
-    if session.len() < 3123 {
+    if session.len() < FIXED_SIZE {
         return false;
     }
     let states = session[0] as usize;
@@ -260,13 +280,13 @@ pub fn in_layout(session: &[u32]) -> bool
     if states == 0 {
         return false;
     }
-    if 16 < states {
+    if MAX_STATES < states {
         return false;
     }
-    if 512 < nodes {
+    if MAX_NODES < nodes {
         return false;
     }
-    if 2048 < edges {
+    if MAX_EDGES < edges {
         return false;
     }
     if !trigger_fits(session, states) {

@@ -1,12 +1,12 @@
 -- A graph held as an ascending list: its edges one by one, the range of the edges from a node, and plain simulation over that range.
 use Prim.Native.Nat.{ℕ, zero, suc, _+_, _*_, _/_, _%_, _<_, _≤_}
-use native.Mathlib.Nat.{div-add-mod', mod-lt, div-eq-of-lt-le, div-mul-le-self, lt-div-mul-add, mul-le-mul-right, suc-mul, eq-or-lt-of-le}
+use native.Mathlib.Nat.{div-add-mod', mod-lt, div-eq-of-lt-le, div-mul-le-self, lt-div-mul-add, mul-le-mul-right, suc-mul}
 use native.Mathlib.Numerals.{add-one}
 use native.Mathlib.Omega.{arith}
 use lib.Arith.{digits-div, digits-mod}
-use lib.Dec.{ltb, leb, eqb}
+use lib.Dec.{ltb, eqb}
 use lib.ListN.{length, getD}
-use borrow.Author.Tests.{ltb-true, lt-ltb, leb-true, leb-false, eqb-true, eq-eqb}
+use borrow.Author.Tests.{ltb-true, lt-ltb, eqb-true, eq-eqb}
 use mathlib.Core.Path.{_≡_, refl, sym, _∙_, ap, fun-ext}
 use mathlib.Core.Logic.{⊎-elim}
 use mathlib.Core.Bool.{Bool, true, not, _&&_, _||_}
@@ -14,14 +14,13 @@ use mathlib.Core.List.{List}
 use Rattle.simulation.specs.Sets.{Set, In, anyBelow, allBelow}
 use Rattle.simulation.specs.System.{supported, reaches}
 use Rattle.simulation.specs.Pattern.{Pattern, pair, paired, system, plain}
-use Rattle.simulation.specs.Search.{first}
 use Rattle.simulation.specs.Ordered.{elem, insert, remove, joins, from, leads}
 use Rattle.simulation.proofs.Terms.{joined}
 use Rattle.simulation.proofs.Sets.{split, same, and-make, and-l, and-r, or-l, or-r, or-take, not-make, implies-make, implies-take, any-make, any-take, all-make, all-take}
 use Rattle.simulation.proofs.System.{Met, supported-make, supported-take, reaches-make, reaches-take}
 use Rattle.simulation.proofs.Pattern.{pair-state, pair-node, pair-inside, node-inside, pair-whole, paired-pair, meets-make, met-at, due-at}
-use Rattle.simulation.proofs.Search.{lt-or-le, first-le, first-before, first-at, found-make, found-take}
-use Rattle.simulation.proofs.Ordered.{Rising, elem-at, elem-index, ascending, elem-insert, elem-remove, insert-take, remove-take}
+use Rattle.simulation.proofs.Search.{lt-or-le, found-make, found-take}
+use Rattle.simulation.proofs.Ordered.{Rising, elem-at, elem-index, place-le, before-place, place-at, after-place, elem-insert, elem-remove, insert-take, remove-take}
 
 positive : (x m k : ℕ) → x < m * k → 0 < k
 positive x m zero h = absurd (omega arith)
@@ -122,20 +121,16 @@ module _ (width : ℕ) where
 
   pub from-le : (es : List ℕ) (v : ℕ) → from width es v ≤ length es
   unfolding from
-  from-le es v = first-le (λ k. leb (v * width) (getD es k 0)) 0 (length es) (omega arith)
+  from-le es v = place-le es (v * width)
 
   -- before the range of v all start before v
   pub before-from : (es : List ℕ) (v k : ℕ) → k < from width es v → getD es k 0 < v * width
   unfolding from
-  before-from es v k h =
-      leb-false (v * width) (getD es k 0) (first-before (λ k. leb (v * width) (getD es k 0)) 0 (length es) k (omega arith) h)
+  before-from es v k h = before-place es (v * width) k h
 
   from-at : (es : List ℕ) (v : ℕ) → from width es v < length es → v * width ≤ getD es (from width es v) 0
   unfolding from
-  from-at es v h =
-      let test : Set = λ k. leb (v * width) (getD es k 0) in
-      let f = first test 0 (length es) in
-      leb-true (v * width) (getD es f 0) (first-at test 0 (length es) (omega arith) h)
+  from-at es v h = place-at es (v * width) h
 
   pub from-mono : (es : List ℕ) (v : ℕ) → from width es v ≤ from width es (v + 1)
   from-mono es v =
@@ -153,13 +148,8 @@ module _ (width : ℕ) where
   module _ (es : List ℕ) (rising : Rising es) where
     -- from the range of v on none starts before v
     pub after-from : (v k : ℕ) → k < length es → from width es v ≤ k → v * width ≤ getD es k 0
-    after-from v k l h =
-        let f = from width es v in
-        let here : v * width ≤ getD es f 0 = from-at es v (omega arith) in
-        ⊎-elim
-        (λ (e : f ≡ k). rw (← e) here)
-        (λ (m : f < k). let s : getD es f 0 < getD es k 0 = ascending es rising f k m l in omega arith)
-        (eq-or-lt-of-le h)
+    unfolding from
+    after-from v k l h = after-place es (v * width) rising k l h
 
     pub in-range : (v k : ℕ) → k < length es → from width es v ≤ k → k < from width es (v + 1) → getD es k 0 / width ≡ v
     in-range v k l low high = div-eq-of-lt-le width (after-from v k l low) (before-from es (v + 1) k high)

@@ -1,16 +1,19 @@
--- Ascending lists as sets: where a member stands, one put in, one taken out, and that a set has one list.
+-- Ascending lists as sets: where a member stands, the place of a number, one put in, one taken out, and that a set has one list.
 use Prim.Native.Nat.{ℕ, zero, suc, _+_, _-_, _<_, _≤_}
+use native.Mathlib.Nat.{eq-or-lt-of-le}
 use native.Mathlib.Numerals.{add-one}
 use native.Mathlib.Omega.{arith}
 use mathlib.Core.Path.{_≡_, refl, sym, _∙_, ap}
 use mathlib.Core.Logic.{_⊎_, inl, inr, ⊎-elim}
 use mathlib.Core.Bool.{Bool, true, false, not, _&&_, _||_, cond, or-comm, or-assoc, or-false, and-true, and-false}
 use mathlib.Core.List.{List, [], _∷_, _++_}
-use lib.Dec.{ltb, eqb}
+use lib.Dec.{ltb, leb, eqb}
 use lib.ListN.{length, getD}
-use borrow.Author.Tests.{ltb-true, ltb-false, lt-ltb, eqb-true, eqb-false, eq-eqb}
+use borrow.Author.Tests.{ltb-true, ltb-false, lt-ltb, leb-true, leb-false, eqb-true, eqb-false, eq-eqb}
+use Rattle.simulation.specs.Search.{first}
 use Rattle.simulation.specs.Ordered.{elem, ascends, insert, remove}
 use Rattle.simulation.proofs.Sets.{clash, split, same, refuted, and-l, and-r, or-l, or-r, or-take, not-take, all-make, all-take}
+use Rattle.simulation.proofs.Search.{first-le, first-before, first-at}
 
 -- each entry is below all that follow it
 abbrev pub Rising : List ℕ → Type 0
@@ -82,6 +85,32 @@ rising-make xs r =
 pub rising-least : (x y : ℕ) (ys : List ℕ) → Rising (y ∷ ys) → elem x (y ∷ ys) ≡ true → y ≤ x
 rising-least x y ys r h =
     ⊎-elim (λ (e : x ≡ y). omega arith) (λ e. let l : y < x = r .0 x e in omega arith) (elem-take x y ys h)
+
+-- ---- the place of a number: the index of the first entry that is not below it
+
+abbrev pub place : List ℕ → ℕ → ℕ
+place xs x = first (λ k. leb x (getD xs k 0)) 0 (length xs)
+
+module _ (xs : List ℕ) (x : ℕ) where
+  pub place-le : place xs x ≤ length xs
+  place-le = first-le (λ k. leb x (getD xs k 0)) 0 (length xs) (omega arith)
+
+  pub before-place : (k : ℕ) → k < place xs x → getD xs k 0 < x
+  before-place k h =
+      leb-false x (getD xs k 0) (first-before (λ k. leb x (getD xs k 0)) 0 (length xs) k (omega arith) h)
+
+  pub place-at : place xs x < length xs → x ≤ getD xs (place xs x) 0
+  place-at h =
+      leb-true x (getD xs (place xs x) 0) (first-at (λ k. leb x (getD xs k 0)) 0 (length xs) (omega arith) h)
+
+  pub after-place : Rising xs → (k : ℕ) → k < length xs → place xs x ≤ k → x ≤ getD xs k 0
+  after-place r k l h =
+      let p = place xs x in
+      let here : x ≤ getD xs p 0 = place-at (omega arith) in
+      ⊎-elim
+      (λ (e : p ≡ k). rw (← e) here)
+      (λ (m : p < k). let s : getD xs p 0 < getD xs k 0 = ascending xs r p k m l in omega arith)
+      (eq-or-lt-of-le h)
 
 -- ---- one put in
 

@@ -1,10 +1,13 @@
 -- `session::fill_words` meets its contract: the places before i hold the words of the source.
-use Prim.Native.Nat.{_-_}
+use Prim.Native.Nat.{ℕ, _+_, _-_}
 use borrow.Author.Needs.{needs}
 use native.Mathlib.Omega.{arith}
+use mathlib.Core.Logic.{⊎-elim}
+use mathlib.Core.Path.{_∙_, sym, subst}
+use mathlib.Core.List.{List}
 use lib.ListN.{length, getD}
 use Rattle.session.specs.Layout.{section}
-use Rattle.session.proofs.Fills.{Filled, fill-start, fill-step, fill-end}
+use Rattle.session.proofs.Fills.{Filled, fill-start, fill-step, fill-kept, fill-end}
 use Rattle.session.proofs.fill_words.Statement.{statement}
 use Rattle.session.proofs.fill_words.Tie as tie
 
@@ -20,6 +23,12 @@ loop-holds c = let a = c .before .before .args in fill-start (λ j. getD (a .sou
 word-at-requires : tie.Need-word-at-requires Inv-loop μ-loop
 word-at-requires c κs = search needs
 
+mul-if1 : tie.Need-mul-if1 Inv-loop μ-loop
+mul-if1 c = search needs
+
+slice-read-if1 : tie.Need-slice-read-if1 Inv-loop μ-loop
+slice-read-if1 c = search needs
+
 mul-place : tie.Need-mul-place Inv-loop μ-loop
 mul-place c = search needs
 
@@ -34,10 +43,17 @@ loop-less c = search needs
 
 loop-again : tie.Need-loop-again Inv-loop μ-loop
 loop-again c =
-    let a = c .before .before .before .before .before .args in
-    let l = c .before .before .loop in
-    fill-step (λ j. getD (a .source .now) j 0) (a .place .now) (l .place) (l .i) (c .word-at .result) (l .inv) (omega arith)
-    (c .word-at .ensures)
+    let a = c .before .before .before .before .before .before .before .args in
+    let l = c .before .before .before .before .loop in
+    let f : ℕ → ℕ = λ j. getD (a .source .now) j 0 in
+    ⊎-elim
+    (λ w.
+    subst (λ (xs : List ℕ). Filled f (a .place .now) xs (l .i + 1)) (sym (w .1))
+    (fill-step f (a .place .now) (l .place) (l .i) (c .before .before .word-at .result) (l .inv) (omega arith) (c .before .before .word-at .ensures)))
+    (λ w.
+    subst (λ (xs : List ℕ). Filled f (a .place .now) xs (l .i + 1)) (sym (w .1))
+    (fill-kept f (a .place .now) (l .place) (l .i) (l .inv) (omega arith) (w .0 .left ∙ c .before .before .word-at .ensures)))
+    (c .if1 .came)
 
 same-length : tie.Need-same-length Inv-loop μ-loop
 same-length c = search needs
@@ -57,6 +73,8 @@ fill-words-spec =
     μ-loop
     loop-holds
     word-at-requires
+    mul-if1
+    slice-read-if1
     mul-place
     slice-write-place
     add-i

@@ -1,90 +1,18 @@
--- `session::first_edge` meets its contract: the answer stays between low and high.
-use Prim.Native.Nat.{_+_, _-_, _/_, _<_, _≤_}
+-- `session::first_edge` meets its contract: the edges from v on are those not below v * 512.
 use borrow.Author.Needs.{needs}
-use native.Mathlib.Omega.{arith}
-use mathlib.Core.Logic.{⊎-elim}
-use lib.ListN.{length}
 use Rattle.simulation.specs.Ordered.{from}
-use Rattle.simulation.proofs.Search.{lt-or-le}
-use Rattle.simulation.proofs.Ordered.{rising-take}
-use Rattle.simulation.proofs.Edges.{from-le, before-from, after-from}
 use Rattle.session.proofs.first_edge.Statement.{statement}
 use Rattle.session.proofs.first_edge.Tie as tie
 
-abbrev Inv-loop : tie.InvT-loop
-Inv-loop edges v code low₀ high₀ low high = (low ≤ from 512 edges v) × (from 512 edges v ≤ high) × (high ≤ length edges)
+mul-place-of : tie.Need-mul-place-of
+mul-place-of c = search needs
 
-abbrev μ-loop : tie.MeasureT-loop
-μ-loop edges v code low₀ high₀ low high = high - low
+place-of-requires : tie.Need-place-of-requires
+place-of-requires c κs = search needs
 
-mul-code : tie.Need-mul-code Inv-loop μ-loop
-mul-code c = search needs
-
-loop-holds : tie.Need-loop-holds Inv-loop μ-loop
-loop-holds c = omega (arith, from-le 512 (c .args .edges .now) (c .args .v))
-
-sub-middle : tie.Need-sub-middle Inv-loop μ-loop
-sub-middle c = search needs
-
-add-middle : tie.Need-add-middle Inv-loop μ-loop
-add-middle c = search needs
-
-mul-if1 : tie.Need-mul-if1 Inv-loop μ-loop
-mul-if1 c = search needs
-
-shared-slice-read-if1 : tie.Need-shared-slice-read-if1 Inv-loop μ-loop
-shared-slice-read-if1 c = search needs
-
-add-low : tie.Need-add-low Inv-loop μ-loop
-add-low c = search needs
-
-loop-less : tie.Need-loop-less Inv-loop μ-loop
-loop-less c = search needs
-
-loop-again : tie.Need-loop-again Inv-loop μ-loop
-loop-again c =
-    let s = c .before .before .before .before in
-    let l = c .before .before .before .loop in
-    let es = s .args .edges .now in
-    let middle = l .low + (l .high - l .low) / 2 in
-    ⊎-elim
-    (λ (m : middle < from 512 es (s .args .v)). omega arith)
-    (λ (m : from 512 es (s .args .v) ≤ middle).
-    absurd (omega (arith, after-from 512 es (rising-take es (s .pre .0)) (s .args .v) middle (omega arith) m)))
-    (lt-or-le middle (from 512 es (s .args .v)))
-
-loop-less-2 : tie.Need-loop-less-2 Inv-loop μ-loop
-loop-less-2 c = search needs
-
-loop-again-2 : tie.Need-loop-again-2 Inv-loop μ-loop
-loop-again-2 c =
-    let s = c .before .before .before .before in
-    let l = c .before .before .before .loop in
-    let es = s .args .edges .now in
-    let middle = l .low + (l .high - l .low) / 2 in
-    ⊎-elim
-    (λ (m : middle < from 512 es (s .args .v)). absurd (omega (arith, before-from 512 es (s .args .v) middle m)))
-    (λ (m : from 512 es (s .args .v) ≤ middle). omega arith)
-    (lt-or-le middle (from 512 es (s .args .v)))
-
-returns : tie.Need-returns Inv-loop μ-loop
-returns c = search needs
+returns : tie.Need-returns
+unfolding from
+returns c = c .place-of .ensures
 
 pub first-edge-spec : {M : Type 1} → statement M
-first-edge-spec =
-    tie.close
-    (tie.spec
-    Inv-loop
-    μ-loop
-    mul-code
-    loop-holds
-    sub-middle
-    add-middle
-    mul-if1
-    shared-slice-read-if1
-    add-low
-    loop-less
-    loop-again
-    loop-less-2
-    loop-again-2
-    returns)
+first-edge-spec = tie.close (tie.spec mul-place-of place-of-requires returns)

@@ -8,10 +8,10 @@ use lib.ListN.{length, replicate}
 use Rattle.session.specs.Layout.{below, inLayout}
 use Rattle.session.proofs.Tables.{below-make}
 use Rattle.refinement.proofs.Turns.{zeros}
-use Rattle.matching.specs.Answers.{refused}
-use Rattle.matching.specs.Rules.{Given, given, loadRules, verdict}
-use Rattle.matching.proofs.Loads.{load-room, load-elsewhere}
-use Rattle.matching.proofs.Finished.{load-layout, load-inside, load-written}
+use Rattle.promises.specs.Answers.{refused}
+use Rattle.promises.specs.Rules.{Given, given, loadRules, verdict}
+use Rattle.promises.proofs.Loads.{load-room, load-elsewhere}
+use Rattle.matching.proofs.Finished.{load-layout, load-inside, load-marked, load-written}
 use Rattle.matching.proofs.loading.load.Statement.{statement}
 use Rattle.matching.proofs.loading.load.Tie as tie
 
@@ -69,21 +69,40 @@ layout w =
 solve-requires : tie.Need-solve-requires
 solve-requires c κs = (layout (c .before .before .before .before), refl, zeros 512)
 
-slice-aggregate-finish : tie.Need-slice-aggregate-finish
-slice-aggregate-finish c = search needs
+slice-aggregate-store-marks : tie.Need-slice-aggregate-store-marks
+slice-aggregate-store-marks c = search needs
 
-slice-aggregate-finish-2 : tie.Need-slice-aggregate-finish-2
-slice-aggregate-finish-2 c = search needs
+-- the table with the greatest simulation
+abbrev written : tie.After-solve → tie.After-write-sections
+written v = v .before .before .before .before .before
 
-finish-requires : tie.Need-finish-requires
-finish-requires c κs =
-    let w = c .before .before .before .before .before .before .before .before .before .before in
+store-marks-requires : tie.Need-store-marks-requires
+store-marks-requires c κs =
+    let v = c .before .before .before in
+    let w = written v in
     let a = rules w .before in
-    let s = known a in
-    let v = c .before .before .before .before .before .solve in (
-      (layout w, refl, v .ensures .long, load-room (length (s .args .session .now)) (length (s .args .changes .now)) (loaded s) (passed (rules w))),
+    let s = known a in (
+      layout w,
+      v .solve .ensures .long,
       load-inside (loaded s) (s .args .session .now) (length (s .args .changes .now)) (passed (rules w)) (masks-fit a) (values-fit a) (samples-fit a)
-          (w .write-sections .last .0) (w .write-sections .ensures) (v .result) (v .last .1 .0) (v .ensures),
+          (w .write-sections .last .0) (w .write-sections .ensures) (v .solve .result) (v .solve .last .1 .0) (v .solve .ensures),
+    )
+
+slice-aggregate-report : tie.Need-slice-aggregate-report
+slice-aggregate-report c = search needs
+
+report-requires : tie.Need-report-requires
+report-requires c κs =
+    let m = c .before .before .before .before .before in
+    let v = m .before .before .before .before in
+    let w = written v in
+    let a = rules w .before in
+    let s = known a in (
+      load-marked (loaded s) (s .args .session .now) (length (s .args .changes .now)) (passed (rules w)) (masks-fit a) (values-fit a) (samples-fit a)
+          (w .write-sections .last .0) (w .write-sections .ensures) (v .solve .result) (v .solve .last .1 .0) (v .solve .ensures)
+          (m .store-marks .last .0) (m .store-marks .ensures),
+      refl,
+      load-room (length (s .args .session .now)) (length (s .args .changes .now)) (loaded s) (passed (rules w)),
     )
 
 same-length : tie.Need-same-length
@@ -94,17 +113,18 @@ same-length-2 c = search needs
 
 returns-2 : tie.Need-returns-2
 returns-2 c =
-    let w = c .before .before .before .before .before .before .before .before .before .before .before .before .before .before in
+    let m = c .before .before .before .before .before .before .before in
+    let v = m .before .before .before .before in
+    let w = written v in
     let a = rules w .before in
     let s = known a in
-    let v = c .before .before .before .before .before .before .before .before .before .solve in
-    let f = c .before .before .before .finish in
     record {
       words = (masks-fit a, values-fit a, samples-fit a);
       refuses = λ bad. absurd (bad (passed (rules w)));
       accepts = λ ok.
           load-written (loaded s) (s .args .session .now) (length (s .args .changes .now)) (passed (rules w)) (masks-fit a) (values-fit a) (samples-fit a)
-          (w .write-sections .last .0) (w .write-sections .ensures) (v .result) (v .last .1 .0) (v .ensures) (replicate 512 0) (zeros 512) _ _ _ _ (f .ensures);
+          (w .write-sections .last .0) (w .write-sections .ensures) (v .solve .result) (v .solve .last .1 .0) (v .solve .ensures)
+          (m .store-marks .last .0) (m .store-marks .ensures) (replicate 512 0) (zeros 512) _ _ _ (c .before .report .ensures);
     }
 
 pub load-spec : {M : Type 1} → statement M
@@ -116,9 +136,10 @@ load-spec =
     write-sections-requires
     slice-aggregate-solve
     solve-requires
-    slice-aggregate-finish
-    slice-aggregate-finish-2
-    finish-requires
+    slice-aggregate-store-marks
+    store-marks-requires
+    slice-aggregate-report
+    report-requires
     same-length
     same-length-2
     returns-2)

@@ -5,8 +5,9 @@ use borrow.Author.Tests.{lt-ltb, le-ltb}
 use mathlib.Core.Path.{_≡_, refl, sym, _∙_}
 use mathlib.Core.List.{List, []}
 use lib.ListN.{length, drop}
-use Rattle.matching.specs.Rules.{Rule, given, loadRules, verdict}
-use Rattle.matching.proofs.Given.{row-passed, row-broken, few-states, ends-given}
+use Rattle.promises.specs.Rules.{Rule, given, loadRules, verdict}
+use Rattle.promises.proofs.Verdicts.{row-passed, row-broken}
+use Rattle.matching.proofs.Given.{few-states, ends-given}
 use Rattle.matching.proofs.loading.load_rule.Statement.{statement}
 use Rattle.matching.proofs.loading.load_rule.Tie as tie
 

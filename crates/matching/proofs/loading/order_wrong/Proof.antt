@@ -10,7 +10,7 @@ use mathlib.Core.List.{List}
 use lib.ListN.{length, getD}
 use Rattle.simulation.specs.Sets.{Set}
 use Rattle.session.proofs.Folds.{Folded, fold-start, fold-pass, fold-fault, fold-end}
-use Rattle.matching.specs.Rules.{precedes}
+use Rattle.promises.specs.Rules.{precedes}
 use Rattle.matching.proofs.loading.order_wrong.Statement.{statement}
 use Rattle.matching.proofs.loading.order_wrong.Tie as tie
 

@@ -8,8 +8,8 @@ use Prim.Native.Nat.{ℕ}
 use lib.ListN.{length, set, length-set}
 use borrow.Rule.Slice.PartMut.{putMid}
 use Rattle.session.specs.Tests.{numbered}
-use Rattle.matching.specs.Rules.{Given, given}
-use Rattle.matching.proofs.Loads.{load-counts, load-edges}
+use Rattle.promises.specs.Rules.{Given, given}
+use Rattle.promises.proofs.Loads.{load-counts, load-edges}
 use Rattle.matching.proofs.Sections.{fill-length, sections-written}
 use Rattle.matching.proofs.loading.write_sections.Statement.{statement}
 use Rattle.matching.proofs.loading.write_sections.Tie as tie

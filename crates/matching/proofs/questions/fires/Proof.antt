@@ -5,8 +5,9 @@ use mathlib.Core.Path.{_≡_, sym, _∙_}
 use mathlib.Core.Bool.{true}
 use Rattle.session.specs.Layout.{triggerOf, graphOf, marksOf, inLayout}
 use Rattle.session.proofs.Decoded.{Bounded, layout-limits}
-use Rattle.matching.specs.Standing as standing
-use Rattle.matching.proofs.Asked.{question-passed, answer-refused, answer-accepted, asked-fires}
+use Rattle.promises.specs.Standing as standing
+use Rattle.matching.proofs.Asked.{question-passed, answer-refused, answer-accepted}
+use Rattle.reports.proofs.Held.{held-firing}
 use Rattle.matching.proofs.questions.fires.Statement.{statement}
 use Rattle.matching.proofs.questions.fires.Tie as tie
 
@@ -51,7 +52,7 @@ all-marked-requires c κs = omega (arith, bounded (c .before .before .before))
 read : (c : tie.After-all-marked)
     → let xs = c .before .before .before .before .before .before .before .args .session .now in
     c .all-marked .result ≡ standing.fires (triggerOf xs) (graphOf xs) (marksOf xs)
-read c = c .all-marked .ensures ∙ asked-fires _ (passed (c .before .before .before .before))
+read c = c .all-marked .ensures ∙ held-firing _ (passed (c .before .before .before .before))
 
 returns-2 : tie.Need-returns-2
 returns-2 c =

@@ -7,6 +7,8 @@ use mathlib.Core.List.{List}
 use Prim.Native.Nat.{ℕ}
 use Rattle.session.specs.Layout.{table, section, inLayout}
 use Rattle.session.proofs.Decoded.{Bounded, layout-limits, layout-facts}
+use Rattle.listing.specs.Order.{order}
+use Rattle.listing.specs.Walks.{linkedBy}
 use Rattle.matching.proofs.Asked.{question-passed, answer-refused, answer-accepted, none-listed, all-listed, links-long, asked-order}
 use Rattle.matching.proofs.questions.order.Statement.{statement}
 use Rattle.matching.proofs.questions.order.Tie as tie
@@ -36,35 +38,20 @@ shared-slice-read-count c = omega (arith, bounded (c .before))
 cast-count : tie.Need-cast-count
 cast-count c = omega (arith, bounded (c .before))
 
-shared-slice-read-end : tie.Need-shared-slice-read-end
-shared-slice-read-end c = omega (arith, bounded (c .before .before))
-
-cast-end : tie.Need-cast-end
-cast-end c = omega (arith, bounded (c .before .before))
-
-add-end : tie.Need-add-end
-add-end c = omega (arith, bounded (c .before .before))
-
-sub-ordered : tie.Need-sub-ordered
-sub-ordered c = search needs
-
-part-ordered-start : tie.Need-part-ordered-start
-part-ordered-start c = search needs
-
-part-ordered-end : tie.Need-part-ordered-end
-part-ordered-end c = omega (arith, bounded (c .before .before))
+links-of-requires : tie.Need-links-of-requires
+links-of-requires c κs = passed (c .before)
 
 ordered-requires : tie.Need-ordered-requires
-ordered-requires c κs = links-long _ (passed (c .before .before .before))
+ordered-requires c κs = rw (c .links-of .ensures) (links-long _ (passed (c .before .before)))
 
 returns-2 : tie.Need-returns-2
 returns-2 c =
-    let e = c .before .before .before .before in
+    let e = c .before .before .before in
     let h = passed e in
     let q = e .before .question-rule .ensures in
     record {
       answer = answer-accepted _ _ q _ _ (e .if1 .left) (layout-facts _ h .counts .0);
-      states = c .ordered .ensures ∙ ap (λ (ys : List ℕ). section 16 ys) (asked-order _ h ∙ all-listed _ _ q _ (e .if1 .left));
+      states = c .ordered .ensures ∙ ap (λ (ys : List ℕ). section 16 ys) (ap (λ (ls : List ℕ). order (linkedBy ls)) (c .before .links-of .ensures) ∙ asked-order _ h ∙ all-listed _ _ q _ (e .if1 .left));
     }
 
 pub order-spec : {M : Type 1} → statement M
@@ -75,11 +62,6 @@ order-spec =
     returns
     shared-slice-read-count
     cast-count
-    shared-slice-read-end
-    cast-end
-    add-end
-    sub-ordered
-    part-ordered-start
-    part-ordered-end
+    links-of-requires
     ordered-requires
     returns-2)

@@ -6,7 +6,7 @@ use lib.ListN.{length}
 use Rattle.simulation.specs.Sets.{count}
 use Rattle.refinement.specs.Tables.{Sound, tabled, waits}
 use Rattle.refinement.proofs.Settling.{Refining, refining-start, refining-turn, refining-less, refining-end}
-use Rattle.refinement.proofs.Turns.{sound-wider, zeros}
+use Rattle.refinement.proofs.Turns.{sound-wider}
 use Rattle.refinement.proofs.refine.refine.Statement.{statement}
 use Rattle.refinement.proofs.refine.refine.Tie as tie
 
@@ -16,26 +16,15 @@ Inv-loop links edges nodes settled tentative₀ waiting₀ heads nexts v₀ tent
 abbrev μ-loop : tie.MeasureT-loop
 μ-loop links edges nodes settled tentative₀ waiting₀ heads nexts v₀ tentative waiting v = 513 * count (nodes * length links) (tabled nodes links edges tentative) + count 512 (waits waiting)
 
--- the function's entry, and the index that was built, from the loop's head
+-- the function's entry, from the loop's head
 abbrev Head : Type 0
 Head = tie.At-loop Inv-loop μ-loop
 
 abbrev start : Head → tie.Start Inv-loop μ-loop
-start h = h .before .before .before .before .before .before .before .before .before .before .before .before .before
+start h = h .before .before .before .before .before .before .before .before .before .before
 
 sound : (h : Head) → Sound (start h .args .nodes) (start h .args .links .now) (start h .args .edges .now)
 sound h = start h .pre .1 .0
-
-slice-aggregate-index : tie.Need-slice-aggregate-index Inv-loop μ-loop
-slice-aggregate-index c = search needs
-
-slice-aggregate-index-2 : tie.Need-slice-aggregate-index-2 Inv-loop μ-loop
-slice-aggregate-index-2 c = search needs
-
-index-requires : tie.Need-index-requires Inv-loop μ-loop
-index-requires c κs =
-    let s = c .before .before .before .before .before .before .before in
-    ((omega (arith, s .pre .1 .0 .few-edges), search needs, search needs), zeros 512)
 
 lowest-in-requires : tie.Need-lowest-in-requires Inv-loop μ-loop
 lowest-in-requires c κs = search needs
@@ -43,38 +32,32 @@ lowest-in-requires c κs = search needs
 loop-holds : tie.Need-loop-holds Inv-loop μ-loop
 loop-holds c = λ s. refining-start _ _ _ s _ _ _ _ (search needs) (search needs) (c .lowest-in .ensures)
 
-slice-aggregate-turn : tie.Need-slice-aggregate-turn Inv-loop μ-loop
-slice-aggregate-turn c = search needs
-
-slice-aggregate-turn-2 : tie.Need-slice-aggregate-turn-2 Inv-loop μ-loop
-slice-aggregate-turn-2 c = search needs
-
 turn-requires : tie.Need-turn-requires Inv-loop μ-loop
 turn-requires c κs =
-    let l = c .before .before .before .before in
+    let l = c .before .before in
     let h = l .before in
     let i = h .loop .inv (sound h) in (
       (start h .pre .0 .0, i .long, i .waits-long, omega (arith, l .loop-test .taken, sound h .few-nodes)),
-      (sound-wider _ _ _ (sound h), h .before .before .before .before .before .index .ensures),
+      (sound-wider _ _ _ (sound h), start h .pre .1 .1),
     )
 
 lowest-in-requires-2 : tie.Need-lowest-in-requires-2 Inv-loop μ-loop
 lowest-in-requires-2 c κs =
     let t = c .before .before .before .before .before in
-    let h = t .before .before .before .before .before .before in
+    let h = t .before .before .before .before in
     t .turn .ensures .waits-long ∙ h .loop .inv (sound h) .waits-long
 
 loop-less : tie.Need-loop-less Inv-loop μ-loop
 loop-less c =
     let t = c .before .before .before .before .before .before in
-    let l = t .before .before .before .before .before in
+    let l = t .before .before .before in
     let h = l .before in
     refining-less _ _ _ (sound h) _ _ _ _ _ _ _ _ (h .loop .inv (sound h)) (l .loop-test .taken) (t .turn .ensures)
 
 loop-again : tie.Need-loop-again Inv-loop μ-loop
 loop-again c =
     let t = c .before .before .before .before .before .before in
-    let h = t .before .before .before .before .before .before in
+    let h = t .before .before .before .before in
     λ s. refining-turn _ _ _ s _ _ _ _ _ _ _ _ _ (h .loop .inv s) (t .turn .ensures) (c .lowest-in2 .ensures)
 
 same-length : tie.Need-same-length Inv-loop μ-loop
@@ -86,7 +69,7 @@ same-length-2 c = let h = c .before in omega (arith, h .loop .inv (sound h) .wai
 returns : tie.Need-returns Inv-loop μ-loop
 returns c =
     let h = c .before in
-    refining-end _ _ _ (sound h) _ _ _ _ _ _ (h .loop .inv (sound h)) (c .loop-test .left) (start h .pre .1 .1) (start h .pre .0 .1)
+    refining-end _ _ _ (sound h) _ _ _ _ _ _ (h .loop .inv (sound h)) (c .loop-test .left) (start h .pre .1 .2) (start h .pre .0 .1)
 
 pub refine-spec : {M : Type 1} → statement M
 refine-spec =
@@ -94,13 +77,8 @@ refine-spec =
     (tie.spec
     Inv-loop
     μ-loop
-    slice-aggregate-index
-    slice-aggregate-index-2
-    index-requires
     lowest-in-requires
     loop-holds
-    slice-aggregate-turn
-    slice-aggregate-turn-2
     turn-requires
     lowest-in-requires-2
     loop-less

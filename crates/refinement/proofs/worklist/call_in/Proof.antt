@@ -5,7 +5,7 @@ use native.Mathlib.Omega.{arith}
 use mathlib.Core.Path.{_≡_}
 use lib.ListN.{length}
 use Rattle.session.proofs.Tables.{below-take}
-use Rattle.refinement.proofs.Incoming.{Calling, calling-none, calling-less, calling-more, calling-done}
+use Rattle.refinement.proofs.Incoming.{Calling, chained-less, calling-none, calling-more, calling-done}
 use Rattle.refinement.proofs.worklist.call_in.Statement.{statement}
 use Rattle.refinement.proofs.worklist.call_in.Tie as tie
 
@@ -62,7 +62,7 @@ cast-next-2 c = omega (arith, c .shared-slice-known6 .given (c .before .before .
 loop-less : tie.Need-loop-less Inv-loop μ-loop
 loop-less c =
     let t = c .before .before .before .before .before .before in
-    calling-less (startOf (t .before) .pre .1 .1) (t .before .loop .inv .1) (t .loop-test .taken)
+    chained-less (startOf (t .before) .pre .1 .1) (t .before .loop .inv .1 .chain) (t .loop-test .taken)
 
 loop-again : tie.Need-loop-again Inv-loop μ-loop
 loop-again c =

@@ -1,0 +1,4 @@
+-- Laws of the ascending list of edges.
+pub mod Places
+pub mod Moves
+pub mod Stored

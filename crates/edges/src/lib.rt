@@ -1,0 +1,47 @@
+// The ascending list of a graph's edges: one looked for, one put in, one taken out.
+ghost use mathlib.Core.Path.{_≡_};
+ghost use mathlib.Core.Bool.{true};
+ghost use mathlib.Core.List.{[], _∷_, _++_};
+ghost use Prim.Native.Nat.{ℕ, _-_, _<_, _≤_};
+ghost use lib.ListN.{length, take};
+ghost use Rattle.simulation.specs.Ordered.{elem, ascends, insert, remove};
+
+pub mod held;
+
+// Whether the ascending list has the edge.
+pub fn has_edge(edges: &[u32], code: u32) -> bool
+    requires { ⌜ ascends (now edges) ≡ true ⌝ }
+    ensures { λ r. ⌜ r ≡ elem code (now (edges .entry)) ⌝ }
+{
+    let at = session::place_of(edges, code);
+    at < edges.len() && edges[at] == code
+}
+
+// Puts an edge into the list that stands before the last place: those above it move up by one.
+pub fn put_edge(edges: &mut [u32], code: u32)
+    requires { ⌜ (0 < length (now edges)) × (ascends (take (length (now edges) - 1) (now edges)) ≡ true) ⌝ }
+    ensures { λ r. ⌜ now (edges .exit) ≡ insert code (take (length (now (edges .entry)) - 1) (now (edges .entry))) ⌝ }
+{
+    let last = edges.len() - 1;
+    let at = session::place_of(&edges[..last], code);
+    let mut k = last;
+    while at < k {
+        edges[k] = edges[k - 1];
+        k -= 1;
+    }
+    edges[at] = code;
+}
+
+// Takes an edge out: those above it move down by one, and the place freed becomes zero.
+pub fn drop_edge(edges: &mut [u32], code: u32)
+    requires { ⌜ (ascends (now edges) ≡ true) × (elem code (now edges) ≡ true) ⌝ }
+    ensures { λ r. ⌜ now (edges .exit) ≡ remove code (now (edges .entry)) ++ (0 ∷ []) ⌝ }
+{
+    let last = edges.len() - 1;
+    let mut k = session::place_of(edges, code);
+    while k < last {
+        edges[k] = edges[k + 1];
+        k += 1;
+    }
+    edges[last] = 0;
+}

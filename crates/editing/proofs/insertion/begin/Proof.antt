@@ -1,0 +1,84 @@
+-- The trials are refined beside the marks, from every node that has one.
+use borrow.Author.Needs.{needs}
+use native.Mathlib.Omega.{arith}
+use mathlib.Core.Path.{_≡_, refl, sym, _∙_, ap}
+use mathlib.Core.Bool.{not}
+use lib.Dec.{eqb}
+use lib.ListN.{length, getD, replicate}
+use borrow.Author.Tests.{ne-eqb}
+use Rattle.session.proofs.Decoded.{Bounded, layout-limits, layout-facts}
+use Rattle.simulation.proofs.Sets.{or-r, not-make}
+use Rattle.refinement.specs.Tables.{waits}
+use Rattle.reports.proofs.Held.{held-sound, marks-long}
+use Rattle.editing.proofs.Refining.{trials-refined}
+use Rattle.editing.proofs.insertion.begin.Statement.{statement}
+use Rattle.editing.proofs.insertion.begin.Tie as tie
+
+abbrev start : tie.After-shared-slice-known4 → tie.Start
+start c = c .before .before .before .before .before
+
+abbrev bounded : (c : tie.After-shared-slice-known4) → Bounded (start c .args .session .now)
+bounded c = layout-limits (start c .args .session .now) (start c .pre .0 .0)
+
+shared-slice-read-nodes : tie.Need-shared-slice-read-nodes
+shared-slice-read-nodes c = omega (arith, bounded c)
+
+cast-nodes : tie.Need-cast-nodes
+cast-nodes c = omega (arith, bounded c)
+
+slice-aggregate-call-all : tie.Need-slice-aggregate-call-all
+slice-aggregate-call-all c = search needs
+
+call-all-requires : tie.Need-call-all-requires
+call-all-requires c κs = (start (c .before .before) .pre .0 .1, refl)
+
+links-of-requires : tie.Need-links-of-requires
+links-of-requires c κs = search needs
+
+edges-of-requires : tie.Need-edges-of-requires
+edges-of-requires c κs = search needs
+
+marks-of-requires : tie.Need-marks-of-requires
+marks-of-requires c κs = search needs
+
+slice-aggregate-refine : tie.Need-slice-aggregate-refine
+slice-aggregate-refine c = search needs
+
+refine-requires : tie.Need-refine-requires
+refine-requires c κs =
+    let s = start (c .before .before .before .before .before .before .before .before .before) in
+    let xs = s .args .session .now in (
+      (ap length (c .before .before .marks-of .ensures) ∙ marks-long xs (s .pre .0 .0), s .pre .0 .1, c .before .before .before .before .before .before .call-all .ensures .0),
+      (
+        held-sound xs (s .pre .0 .0) _ _ (c .before .before .before .before .links-of .ensures) (c .before .before .before .edges-of .ensures),
+        rw (c .before .before .before .edges-of .ensures) (s .pre .1),
+        λ u v e. omega (arith, layout-facts xs (s .pre .0 .0) .counts .1, s .pre .0 .2 u v e .1),
+      ),
+    )
+
+same-length : tie.Need-same-length
+same-length c = search needs
+
+returns : tie.Need-returns
+returns c =
+    let s = start (c .before .before .before .before .before .before .before .before .before .before .before .before .before) in
+    let xs = s .args .session .now in
+    trials-refined xs (s .pre .0 .0) _ _ (c .before .before .before .before .before .before .before .before .links-of .ensures) (c .before .before .before .before .before .before .before .edges-of .ensures) _ _ _ _ (c .before .before .before .refine .ensures)
+    (c .before .before .before .before .before .before .marks-of .ensures) (s .pre .0 .1) (s .pre .0 .2)
+    (λ v some. c .before .before .before .before .before .before .before .before .before .before .call-all .ensures .1 v ∙ or-r (waits (replicate 16 0) v) (not-make (ne-eqb (getD (s .args .table .now) v 0) 0 some)))
+
+pub begin-spec : {M : Type 1} → statement M
+begin-spec =
+    tie.close
+    (tie.spec
+    shared-slice-read-nodes
+    cast-nodes
+    slice-aggregate-call-all
+    call-all-requires
+    links-of-requires
+    edges-of-requires
+    marks-of-requires
+    slice-aggregate-refine
+    refine-requires
+    same-length
+    returns)

@@ -1,0 +1,2 @@
+-- What the steps of an edit leave.
+pub mod Steps

@@ -1,0 +1,67 @@
+-- What the steps of an edit leave, on a session that holds a trigger t, a graph g with the edge put in or taken out already, and marks m.
+use Prim.Native.Nat.{ℕ, _*_, _/_, _<_}
+use mathlib.Core.Path.{_≡_}
+use mathlib.Core.Bool.{Bool, true, false, not, _&&_, _||_}
+use mathlib.Core.List.{List, [], _∷_}
+use lib.Dec.{ltb}
+use lib.ListN.{length}
+use Rattle.simulation.specs.Sets.{Set, In, none, allBelow, anyBelow}
+use Rattle.simulation.specs.System.{supported, refined}
+use Rattle.simulation.specs.Pattern.{pair, system}
+use Rattle.session.specs.Limits.{maxNodes, maxChanges, fixedSize}
+use Rattle.session.specs.Trigger.{Trigger, Graph, Marks, states, nodes, linked, admits, pattern}
+use Rattle.session.specs.Layout.{triggerOf, graphOf, marksOf, inLayout}
+use Rattle.refinement.specs.Tables.{marked}
+use Rattle.promises.specs.Standing.{pairsOf, fresh}
+use Rattle.promises.specs.Rules.{Rule, rule, Kind, insertion, deletion}
+use Rattle.reports.specs.Marks.{Inside}
+
+-- a table holds exactly the pairs of X
+pub record Holds (xs : List ℕ) (X : Set) (ts : List ℕ) : Type 0 where
+  pub long : length ts ≡ maxNodes
+  pub inside : Inside xs ts
+  pub pairs : (p : ℕ) → p < nodes (graphOf xs) * states (triggerOf xs) → pairsOf (triggerOf xs) (graphOf xs) (marked ts) p ≡ X p
+
+-- the marks that are held, and the pairs that are admitted and not marked
+abbrev pub markedPairs : List ℕ → Set
+markedPairs xs = pairsOf (triggerOf xs) (graphOf xs) (marksOf xs)
+
+abbrev pub freshPairs : List ℕ → Set
+freshPairs xs = pairsOf (triggerOf xs) (graphOf xs) (fresh (triggerOf xs) (graphOf xs) (marksOf xs))
+
+-- the states that begin the trial set: fresh at a, with a link to a state that admits b
+unfoldable pub seedsOf : List ℕ → ℕ → ℕ → Set
+seedsOf xs a b u =
+    let t = triggerOf xs in
+    let g = graphOf xs in
+    ltb u (states t) && (fresh t g (marksOf xs) u a && anyBelow (states t) (λ u'. linked t u u' && admits t g u' b))
+
+-- the pairs of X have their support in Y
+abbrev pub backed : List ℕ → Set → Set
+backed xs Y = supported (system (pattern (triggerOf xs) (graphOf xs))) Y
+
+-- each mark at the node v has its support in the marks
+unfoldable pub steadyAt : List ℕ → ℕ → Bool
+steadyAt xs v =
+    allBelow (states (triggerOf xs))
+    (λ u. not (marksOf xs u v) || backed xs (markedPairs xs) (pair (pattern (triggerOf xs) (graphOf xs)) u v))
+
+-- what is left of the marks by refinement from the node a: all that the marks hold refined, where only pairs at a may lack support
+pub record Ceased (xs : List ℕ) (a : ℕ) (ts : List ℕ) : Type 0 where
+  pub long : length ts ≡ maxNodes
+  pub within : (u v : ℕ) → marked ts u v ≡ true → marksOf xs u v ≡ true
+  pub exact : ((p : ℕ) → In (markedPairs xs) p → (p / states (triggerOf xs) ≡ a → ⊥) → In (backed xs (markedPairs xs)) p)
+      → Holds xs (refined (system (pattern (triggerOf xs) (graphOf xs))) none (markedPairs xs)) ts
+
+-- the kind of an edit, as the code tells it
+abbrev pub kindOf : Bool → Kind
+kindOf true = insertion
+kindOf false = deletion
+
+-- the rules that both edits share, before those of their own
+abbrev pub sharedRules : List ℕ → ℕ → ℕ → ℕ → List Rule
+sharedRules xs room a b =
+    rule 3 (ltb (length xs) fixedSize || ltb room maxChanges)
+    ∷ rule 10 (not (inLayout xs))
+    ∷ rule 11 (not (ltb a (nodes (graphOf xs)) && ltb b (nodes (graphOf xs))))
+    ∷ []

@@ -1,0 +1,96 @@
+// A deletion: the marks that an edge less leaves.
+ghost use mathlib.Core.Path.{_≡_};
+ghost use mathlib.Core.Bool.{true};
+ghost use Prim.Native.Nat.{ℕ, _<_};
+ghost use lib.ListN.{length, getD, take, drop};
+ghost use Rattle.session.specs.Limits.{marksAt, maxNodes};
+ghost use Rattle.session.specs.Trigger.{nodes};
+ghost use Rattle.session.specs.Layout.{triggerOf, graphOf, marksOf, inLayout};
+ghost use Rattle.refinement.specs.Tables.{marked};
+ghost use Rattle.promises.specs.Rules.{deletion, graphRules, verdict};
+ghost use Rattle.promises.specs.Promises.{Done, ceased};
+ghost use Rattle.editing.specs.Steps.{steadyAt, Ceased};
+use edges::held::remove_edge;
+use refinement::refine::left_at;
+use refinement::refine::refine;
+use refinement::worklist::WAITING_WORDS;
+use refinement::worklist::index;
+use refinement::worklist::put_in;
+use reports::marks::store_marks;
+use reports::parts::edges_of;
+use reports::parts::links_of;
+use reports::parts::marks_of;
+use trials::table::pairs_in;
+use trials::table::take_away;
+
+// Whether each mark at a node keeps its support: one look, before any index is built.
+pub fn steady(session: &[u32], node: u32) -> bool
+    requires { ⌜ (inLayout (now session) ≡ true) × (node < nodes (graphOf (now session))) ⌝ }
+    ensures { λ r. ⌜ r ≡ steadyAt (now (session .entry)) node ⌝ }
+{
+    let marks = marks_of(session);
+    let settled = [0u32; session::MAX_NODES];
+    let left = left_at(
+        links_of(session),
+        edges_of(session),
+        &settled,
+        marks,
+        node as usize,
+    );
+    left == marks[node as usize]
+}
+
+// Refines a table with the marks of the session from the node where an edge went.
+pub fn cease(session: &[u32], start: u32, table: &mut [u32])
+    requires { ⌜ (inLayout (now session) ≡ true) × (start < nodes (graphOf (now session))) × (now table ≡ take maxNodes (drop marksAt (now session))) ⌝ }
+    ensures { λ r. ⌜ Ceased (now (session .entry)) start (now (table .exit)) ⌝ }
+{
+    let nodes = session[1] as usize;
+    let edges = edges_of(session);
+    let mut heads = [0u32; session::MAX_NODES];
+    let mut nexts = [0u32; session::MAX_EDGES];
+    index(edges, &mut heads, &mut nexts);
+    let settled = [0u32; session::MAX_NODES];
+    let mut waiting = [0u32; WAITING_WORDS];
+    put_in(&mut waiting, start as usize);
+    refine(
+        links_of(session),
+        edges,
+        nodes,
+        &settled,
+        table,
+        &mut waiting,
+        &heads,
+        &nexts,
+    );
+}
+
+// How many pairs are marked and not in the table.
+pub fn ceased_pairs(session: &[u32], table: &[u32]) -> u32
+    requires { ⌜ (inLayout (now session) ≡ true) × (length (now table) ≡ maxNodes) ⌝ }
+    ensures { λ r. ⌜ r ≡ ceased (triggerOf (now (session .entry))) (graphOf (now (session .entry))) (marksOf (now (session .entry))) (marked (now (table .entry))) ⌝ }
+{
+    let states = session[0];
+    let nodes = session[1] as usize;
+    let mut gone = [0u32; session::MAX_NODES];
+    session::fill_words(&mut gone, marks_of(session));
+    take_away(&mut gone, table);
+    pairs_in(&gone, states, nodes)
+}
+
+// Deletes an edge that breaks no rule, and corrects the marks; how many pairs ceased to stand.
+pub fn delete_edit(session: &mut [u32], start: u32, end: u32) -> u32
+    requires { ⌜ (inLayout (now session) ≡ true) × (verdict (graphRules deletion (graphOf (now session)) start end) ≡ 0) ⌝ }
+    ensures { λ r. ⌜ Done deletion (triggerOf (now (session .entry))) (graphOf (now (session .entry))) (marksOf (now (session .entry))) (marksOf (now (session .exit))) start end r (now (session .entry)) (now (session .exit)) ⌝ }
+{
+    remove_edge(session, start, end);
+    if steady(session, start) {
+        return 0;
+    }
+    let mut table = [0u32; session::MAX_NODES];
+    session::fill_words(&mut table, marks_of(session));
+    cease(session, start, &mut table);
+    let trials = ceased_pairs(session, &table);
+    store_marks(session, &table);
+    trials
+}

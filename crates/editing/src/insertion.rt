@@ -1,0 +1,142 @@
+// An insertion: the pairs that an edge more may cause to stand are tried, and those that do are marked.
+ghost use mathlib.Core.Path.{_≡_};
+ghost use mathlib.Core.Bool.{true};
+ghost use Prim.Native.Nat.{ℕ, _<_};
+ghost use lib.ListN.{length, getD};
+ghost use Rattle.simulation.specs.System.{refined};
+ghost use Rattle.simulation.specs.Pattern.{system};
+ghost use Rattle.bits.specs.Word.{members};
+ghost use Rattle.session.specs.Limits.{maxNodes};
+ghost use Rattle.session.specs.Trigger.{nodes, pattern};
+ghost use Rattle.session.specs.Layout.{triggerOf, graphOf, marksOf, inLayout};
+ghost use Rattle.refinement.specs.Tables.{marked, Indexed};
+ghost use Rattle.promises.specs.Standing.{pairsOf, trialSet};
+ghost use Rattle.promises.specs.Rules.{insertion, graphRules, verdict};
+ghost use Rattle.promises.specs.Promises.{Done};
+ghost use Rattle.reports.specs.Marks.{Inside};
+ghost use Rattle.editing.specs.Steps.{Holds, markedPairs, freshPairs, seedsOf};
+use edges::held::insert_edge;
+use refinement::refine::refine;
+use refinement::table::admitted;
+use refinement::worklist::WAITING_WORDS;
+use refinement::worklist::index;
+use refinement::worklist::put_in;
+use reports::marks::store_marks;
+use reports::parts::edges_of;
+use reports::parts::links_of;
+use reports::parts::marks_of;
+use reports::parts::masks_of;
+use reports::parts::samples_of;
+use reports::parts::values_of;
+use trials::grow::grow;
+use trials::grow::linking;
+use trials::table::admitted_at;
+use trials::table::call_all;
+use trials::table::pairs_in;
+use trials::table::put_together;
+use trials::table::take_away;
+
+// The states that begin the trial set at the edge's start.
+pub fn seeds_at(session: &[u32], start: u32, end: u32) -> u32
+    requires { ⌜ (inLayout (now session) ≡ true) × (start < nodes (graphOf (now session))) × (end < nodes (graphOf (now session))) ⌝ }
+    ensures { λ r. ⌜ members r ≡ seedsOf (now (session .entry)) start end ⌝ }
+{
+    let masks = masks_of(session);
+    let values = values_of(session);
+    let samples = samples_of(session);
+    let marks = marks_of(session);
+    let at_end = admitted_at(masks, values, samples[end as usize]);
+    let able = linking(links_of(session), at_end);
+    let at_start = admitted_at(masks, values, samples[start as usize]);
+    able & bits::difference(at_start, marks[start as usize])
+}
+
+// Puts the pairs that are admitted and not marked into a table that is zero.
+pub fn fresh_pairs(session: &[u32], table: &mut [u32])
+    requires { ⌜ (inLayout (now session) ≡ true) × (length (now table) ≡ maxNodes) × ((v : ℕ) → getD (now table) v 0 ≡ 0) ⌝ }
+    ensures { λ r. ⌜ Holds (now (session .entry)) (freshPairs (now (session .entry))) (now (table .exit)) ⌝ }
+{
+    admitted(
+        masks_of(session),
+        values_of(session),
+        samples_of(session),
+        table,
+    );
+    take_away(table, marks_of(session));
+}
+
+// Puts the trial set that the seeds begin into a table that is zero.
+pub fn try_pairs(
+    session: &[u32],
+    start: u32,
+    seeds: u32,
+    heads: &[u32],
+    nexts: &[u32],
+    table: &mut [u32],
+)
+    requires { ⌜ (inLayout (now session) ≡ true) × (start < nodes (graphOf (now session))) × (length (now table) ≡ maxNodes) × ((v : ℕ) → getD (now table) v 0 ≡ 0) ⌝ }
+    requires { ⌜ Indexed (graphOf (now session) .edges) (now heads) (now nexts) × ((b : ℕ) × (members seeds ≡ seedsOf (now session) start b)) ⌝ }
+    ensures { λ r. ⌜ ((b : ℕ) → members seeds ≡ seedsOf (now (session .entry)) start b → Holds (now (session .entry)) (trialSet (triggerOf (now (session .entry))) (graphOf (now (session .entry))) (marksOf (now (session .entry))) start b) (now (table .exit))) ⌝ }
+{
+    let nodes = session[1] as usize;
+    let mut fresh = [0u32; session::MAX_NODES];
+    fresh_pairs(session, &mut fresh);
+    let mut waiting = [0u32; WAITING_WORDS];
+    put_in(&mut waiting, start as usize);
+    table[start as usize] = seeds;
+    grow(
+        links_of(session),
+        edges_of(session),
+        nodes,
+        &fresh,
+        table,
+        &mut waiting,
+        heads,
+        nexts,
+    );
+}
+
+// Refines a table of trials beside the marks: what is left begins to stand.
+pub fn begin(session: &[u32], heads: &[u32], nexts: &[u32], table: &mut [u32])
+    requires { ⌜ (inLayout (now session) ≡ true) × (length (now table) ≡ maxNodes) × Inside (now session) (now table) ⌝ }
+    requires { ⌜ Indexed (graphOf (now session) .edges) (now heads) (now nexts) ⌝ }
+    ensures { λ r. ⌜ Holds (now (session .entry)) (refined (system (pattern (triggerOf (now (session .entry))) (graphOf (now (session .entry))))) (markedPairs (now (session .entry))) (pairsOf (triggerOf (now (session .entry))) (graphOf (now (session .entry))) (marked (now (table .entry))))) (now (table .exit)) ⌝ }
+{
+    let nodes = session[1] as usize;
+    let mut waiting = [0u32; WAITING_WORDS];
+    call_all(table, &mut waiting);
+    refine(
+        links_of(session),
+        edges_of(session),
+        nodes,
+        marks_of(session),
+        table,
+        &mut waiting,
+        heads,
+        nexts,
+    );
+}
+
+// Inserts an edge that breaks no rule, and corrects the marks; how many pairs were tried.
+pub fn insert_edit(session: &mut [u32], start: u32, end: u32) -> u32
+    requires { ⌜ (inLayout (now session) ≡ true) × (verdict (graphRules insertion (graphOf (now session)) start end) ≡ 0) ⌝ }
+    ensures { λ r. ⌜ Done insertion (triggerOf (now (session .entry))) (graphOf (now (session .entry))) (marksOf (now (session .entry))) (marksOf (now (session .exit))) start end r (now (session .entry)) (now (session .exit)) ⌝ }
+{
+    insert_edge(session, start, end);
+    let seeds = seeds_at(session, start, end);
+    if seeds == 0 {
+        return 0;
+    }
+    let states = session[0];
+    let nodes = session[1] as usize;
+    let mut heads = [0u32; session::MAX_NODES];
+    let mut nexts = [0u32; session::MAX_EDGES];
+    index(edges_of(session), &mut heads, &mut nexts);
+    let mut table = [0u32; session::MAX_NODES];
+    try_pairs(session, start, seeds, &heads, &nexts, &mut table);
+    let trials = pairs_in(&table, states, nodes);
+    begin(session, &heads, &nexts, &mut table);
+    put_together(&mut table, marks_of(session));
+    store_marks(session, &table);
+    trials
+}

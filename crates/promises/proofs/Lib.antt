@@ -1,0 +1,12 @@
+-- The laws of the definitions, and the proofs of the demands.
+pub mod Worked
+pub mod Stands
+pub mod Trials
+pub mod Handed
+pub mod Chains
+pub mod Verdicts
+pub mod Loads
+pub mod Changed
+pub mod Edits
+pub mod Steps
+pub mod Demands

@@ -1,0 +1,148 @@
+-- Worked cases, computed from the definitions alone: the session of 01, a ring closed by one edge, a pair tried and dropped,
+-- a ring broken, and rules that are broken together.
+use Prim.Native.Nat.{ℕ, zero, suc}
+use mathlib.Core.Path.{_≡_, refl}
+use mathlib.Core.Bool.{Bool, true, false}
+use mathlib.Core.List.{List, [], _∷_, map}
+use lib.Dec.{ltb, leb}
+use lib.IntN.{ℤ, pos, negsuc}
+use lib.ListN.{length}
+use Rattle.simulation.specs.Sets.{anyBelow, allBelow, count, shrunk, down, grown, up}
+use Rattle.simulation.specs.System.{greatest, supported, closure, reaches}
+use Rattle.simulation.specs.Pattern.{best}
+use Rattle.simulation.specs.Ordered.{elem, insert, remove, joins}
+use Rattle.bits.specs.Word.{word}
+use Rattle.session.specs.Limits.{maxEdges}
+use Rattle.session.specs.Trigger.{Trigger, Graph, nodes, linked, edge, edgeNumber, admits, agrees}
+use Rattle.session.specs.Layout.{table, markWord, below}
+use Rattle.listing.specs.Changes.{joinTo, changes}
+use Rattle.listing.specs.Order.{fold, visit, order}
+use Rattle.promises.specs.Standing.{stands, fires, size, pairsOf, trialSet}
+use Rattle.promises.specs.Rules.{Kind, insertion, deletion, edited, graphRules, verdict, Given, loadRules}
+use Rattle.promises.specs.Promises.{loadList, loadTrials, trialCount}
+
+-- a load, or an edit of (start, end), of this trigger and this graph
+data Asked : Type 0 where
+  load : Trigger → Graph → Asked
+  edit : Kind → Trigger → Graph → ℕ → ℕ → Asked
+
+-- what is answered where the marks are right: the rule broken, or firing, the trial count and the change list
+data Told : Type 0 where
+  refuse : ℕ → Told
+  report : Bool → ℕ → List ℤ → Told
+
+judge : ℕ → Told → Told
+judge zero r = r
+judge (suc n) r = refuse (suc n)
+
+answer : Asked → Told
+answer (load t g) = report (fires t g (stands t g)) (loadTrials t g) (loadList t g)
+answer (edit k t g a b) =
+    let g' = edited k g a b in
+    judge (verdict (graphRules k g a b))
+    (report (fires t g' (stands t g')) (trialCount k t g' (stands t g) (stands t g') a b) (changes t g (stands t g) (stands t g')))
+
+-- 01's session: two states linked to each other, each admitting its own node
+two : Trigger
+two = record { masks = 0xFFFF ∷ 0xFFFF ∷ []; values = 1 ∷ 2 ∷ []; links = 2 ∷ 1 ∷ [] }
+
+-- one state linked to itself that admits every node
+self : Trigger
+self = record { masks = 0 ∷ []; values = 0xFF ∷ []; links = 1 ∷ [] }
+
+-- State One linked to itself and to state 3, which links back to it; state 2 is not reached
+three : Trigger
+three = record { masks = 0 ∷ 0 ∷ 0 ∷ []; values = 0 ∷ 0 ∷ 0 ∷ []; links = 5 ∷ 1 ∷ 1 ∷ [] }
+
+graph : List ℕ → List ℕ → Graph
+graph samples edges = record { samples = samples; edges = edges }
+
+two-nodes : List ℕ → Graph
+two-nodes = graph (1 ∷ 2 ∷ [])
+
+rows : List Asked
+rows =
+    load two (two-nodes [])
+    ∷ edit insertion two (two-nodes []) 0 1
+    ∷ edit insertion two (two-nodes (edgeNumber 0 1 ∷ [])) 1 0
+    ∷ edit insertion two (two-nodes (edgeNumber 0 1 ∷ edgeNumber 1 0 ∷ [])) 1 0
+    ∷ edit deletion two (two-nodes (edgeNumber 0 1 ∷ edgeNumber 1 0 ∷ [])) 0 1
+    ∷ edit insertion self (graph (0 ∷ 0 ∷ 0 ∷ []) (edgeNumber 0 1 ∷ edgeNumber 1 2 ∷ [])) 2 0
+    ∷ edit insertion self (graph (0 ∷ 0 ∷ []) []) 0 1
+    ∷ edit deletion self (graph (0 ∷ 0 ∷ []) (edgeNumber 0 1 ∷ edgeNumber 1 0 ∷ [])) 0 1
+    ∷ edit deletion self (graph (0 ∷ 0 ∷ []) (edgeNumber 0 1 ∷ edgeNumber 1 0 ∷ [])) 1 1
+    ∷ edit insertion self (graph (0 ∷ 0 ∷ []) []) 0 2
+    ∷ []
+
+told : List Told
+told =
+    report false 2 []
+    ∷ report false 1 []
+    ∷ report true 2 (pos 1 ∷ pos 66 ∷ [])
+    ∷ refuse 12
+    ∷ report false 2 (negsuc 0 ∷ negsuc 65 ∷ [])
+    ∷ report true 3 (pos 1 ∷ pos 65 ∷ pos 129 ∷ [])
+    ∷ report false 1 []
+    ∷ report false 2 (negsuc 0 ∷ negsuc 64 ∷ [])
+    ∷ refuse 14
+    ∷ refuse 11
+    ∷ []
+
+worked : map answer rows ≡ told
+unfolding answer judge rows told two self graph two-nodes verdict insert remove joins elem edge linked admits agrees fires stands best
+    greatest supported shrunk down anyBelow allBelow count changes joinTo trialSet closure grown up reaches
+worked = refl
+
+worked-orders : map order (two ∷ self ∷ three ∷ []) ≡ ((1 ∷ 2 ∷ []) ∷ (1 ∷ []) ∷ (1 ∷ 3 ∷ 2 ∷ []) ∷ [])
+unfolding two self three order visit fold elem linked
+worked-orders = refl
+
+-- ---- the sequence of the rules: loads and insertions that break two rules each meet the first of them
+
+many : ℕ → List ℕ
+many n = table n (λ i. i)
+
+given : List ℕ → List ℕ → List ℕ → List ℕ → List ℕ → Given
+given masks links samples starts ends =
+    record { masks = masks; values = masks; links = links; samples = samples; starts = starts; ends = ends }
+
+load-verdicts : List ℕ
+load-verdicts =
+    verdict (loadRules 3122 8192 (given [] [] [] [] []))
+    ∷ verdict (loadRules 3123 8191 (given [] [] [] [] []))
+    ∷ verdict (loadRules 3123 8192 (given [] (2 ∷ []) [] [] []))
+    ∷ verdict (loadRules 3123 8192 (given (many 17) (many 17) [] [] []))
+    ∷ verdict (loadRules 3123 8192 (given (0 ∷ []) (2 ∷ []) (many 513) [] []))
+    ∷ verdict (loadRules 3123 8192 (given (0 ∷ []) (1 ∷ []) (many 513) (0 ∷ []) []))
+    ∷ verdict (loadRules 3123 8192 (given (0 ∷ []) (1 ∷ []) (0 ∷ []) (1 ∷ 0 ∷ []) (0 ∷ [])))
+    ∷ verdict (loadRules 3123 8192 (given (0 ∷ []) (1 ∷ []) (0 ∷ []) (0 ∷ 0 ∷ []) (0 ∷ 1 ∷ [])))
+    ∷ verdict (loadRules 3123 8192 (given (0 ∷ []) (1 ∷ []) (0 ∷ 0 ∷ []) (0 ∷ 0 ∷ []) (1 ∷ 0 ∷ [])))
+    ∷ verdict (loadRules 3123 8192 (given (0 ∷ []) (1 ∷ []) (0 ∷ 0 ∷ []) (0 ∷ 0 ∷ []) (0 ∷ 1 ∷ [])))
+    ∷ []
+
+worked-loads : load-verdicts ≡ 3 ∷ 3 ∷ 4 ∷ 4 ∷ 5 ∷ 6 ∷ 7 ∷ 8 ∷ 9 ∷ 0 ∷ []
+unfolding load-verdicts given many table verdict below allBelow
+worked-loads = refl
+
+-- "Edges 2,048 and one more, absent: 13; one more, present: 12", whatever the edges are
+edge-present : (g : Graph) (a b : ℕ) → ltb a (nodes g) ≡ true → ltb b (nodes g) ≡ true → edge g a b ≡ true → verdict (graphRules insertion g a b) ≡ 12
+unfolding verdict
+edge-present g a b ha hb h = rw (ha, hb, h)
+
+edge-absent : (g : Graph) (a b : ℕ) → ltb a (nodes g) ≡ true → ltb b (nodes g) ≡ true → edge g a b ≡ false → leb maxEdges (length (g .edges)) ≡ true
+    → verdict (graphRules insertion g a b) ≡ 13
+unfolding verdict
+edge-absent g a b ha hb h full = rw (ha, hb, h, full)
+
+-- ---- the memory of docs/LAYOUT.md: the edges and the mark words of 01's session once both edges are in
+
+both : Graph
+both = two-nodes (edgeNumber 0 1 ∷ edgeNumber 1 0 ∷ [])
+
+worked-edges : both .edges ≡ 1 ∷ 512 ∷ []
+unfolding both two-nodes graph
+worked-edges = refl
+
+worked-marks : map (markWord two both (stands two both)) (0 ∷ 1 ∷ 2 ∷ []) ≡ 1 ∷ 2 ∷ 0 ∷ []
+unfolding both two two-nodes graph markWord word stands best greatest supported shrunk down anyBelow allBelow linked edge joins elem admits agrees
+worked-marks = refl

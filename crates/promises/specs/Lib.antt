@@ -1,0 +1,7 @@
+-- What the engine means and promises.
+pub mod Standing
+pub mod Answers
+pub mod Rules
+pub mod Promises
+pub mod Model
+pub mod Demands

@@ -1,0 +1,2 @@
+-- What the tables of a session may hold.
+pub mod Marks

@@ -1,0 +1,157 @@
+-- Loops over a table or a set: a set that gains what passes a test, a table changed word by word, the pairs counted node by node.
+use Prim.Native.Nat.{ℕ, suc, _+_, _*_, _/_, _%_, _^_, _<_, _≤_, zero-le}
+use native.Mathlib.Numerals.{add-one}
+use native.Mathlib.Omega.{arith}
+use mathlib.Core.Path.{_≡_, refl, sym, ap, ap₂, fun-ext, _∙_}
+use mathlib.Core.Logic.{⊎-elim}
+use mathlib.Core.Bool.{Bool, true, false, not, _&&_, _||_, cond, and-false, or-false, or-true}
+use mathlib.Core.List.{List}
+use lib.Arith.{digits-mod, digits-div}
+use lib.Bits.{bitAnd, bitXor}
+use lib.Dec.{ltb, eqb}
+use lib.ListN.{length, getD, set, length-set, List·getD-eq-default}
+use lib.Seq.{getD-set-same, getD-set-other}
+use borrow.Author.Tests.{ltb-false, le-ltb, eqb-true, eqb-false, eq-eqb, ne-eqb}
+use Rattle.simulation.specs.Sets.{Set, also, count}
+use Rattle.simulation.proofs.Sets.{split, count-le}
+use Rattle.simulation.proofs.Loops.{count-same, total, count-rows}
+use Rattle.bits.specs.Word.{members}
+use Rattle.bits.proofs.Words.{zero-members}
+use Rattle.bits.proofs.Counts.{count-beyond}
+use Rattle.session.specs.Trigger.{agrees}
+use Rattle.refinement.specs.Tables.{marked}
+use Rattle.refinement.proofs.Admitting.{more-here, more-other, agrees-test}
+
+-- ---- the set B, with the numbers below u that pass the test P
+
+module _ (B P : Set) where
+  abbrev pub gained : ℕ → Set
+  gained u x = B x || (ltb x u && P x)
+
+  pub gained-none : B ≡ gained 0
+  gained-none = fun-ext (λ x. sym (ap (λ (b : Bool). B x || (b && P x)) (le-ltb x 0 zero-le) ∙ or-false (B x)))
+
+  module _ (u : ℕ) {Y : Set} (e : Y ≡ gained u) where
+    away : (x : ℕ) → eqb x u ≡ false → Y x ≡ gained (u + 1) x
+    away x t = ap (λ (X : Set). X x) e ∙ ap (λ (b : Bool). B x || (b && P x)) (sym (more-other x u (eqb-false x u t)))
+
+    -- u passes, and is put in
+    pub gained-more : {Y' : Set} → P u ≡ true → Y' ≡ also Y u → Y' ≡ gained (u + 1)
+    gained-more h m =
+        m
+        ∙ fun-ext
+        (λ x.
+        ⊎-elim
+        (λ (t : eqb x u ≡ true). rw t (rw (eqb-true x u t, more-here u, h) (or-true (Y u) ∙ sym (or-true (B u)))))
+        (λ (t : eqb x u ≡ false). rw (t, or-false) (away x t))
+        (split (eqb x u)))
+
+    -- u fails
+    pub gained-pass : P u ≡ false → Y ≡ gained (u + 1)
+    gained-pass h =
+        fun-ext
+        (λ x. ⊎-elim (λ (t : eqb x u ≡ true). rw (eqb-true x u t) here) (λ (t : eqb x u ≡ false). away x t) (split (eqb x u)))
+      where
+        here : Y u ≡ gained (u + 1) u
+        here = ap (λ (X : Set). X u) e ∙ rw (h, and-false (ltb u u), and-false (ltb u (u + 1))) refl
+
+-- every number that passes is below n
+pub gained-all : (B P : Set) (n : ℕ) → ((x : ℕ) → n ≤ x → P x ≡ false) → (x : ℕ) → gained B P n x ≡ (B x || P x)
+gained-all B P n h x =
+    ap (λ (b : Bool). B x || b)
+    (⊎-elim (λ (t : ltb x n ≡ true). rw t refl) (λ (t : ltb x n ≡ false). rw (t, h x (ltb-false x n t)) refl) (split (ltb x n)))
+
+-- the nodes at which a table has a pair; none is past its end
+abbrev pub occupied : List ℕ → Set
+occupied ts v = not (eqb (getD ts v 0) 0)
+
+pub none-past : (ts : List ℕ) (v : ℕ) → length ts ≤ v → occupied ts v ≡ false
+none-past ts v l = ap not (eq-eqb (getD ts v 0) 0 (List·getD-eq-default ts 0 l))
+
+-- the states that admit a sample
+module _ (masks values : List ℕ) (sample : ℕ) where
+  abbrev pub admitting : Set
+  admitting u = agrees 16 (getD masks u 0) (getD values u 0) sample
+
+  module _ (u : ℕ) (small : getD masks u 0 < 2 ^ 16) where
+    abbrev tested : ℕ
+    tested = bitAnd (bitXor (getD values u 0) sample) (getD masks u 0)
+
+    pub admitting-yes : bitAnd (bitXor (getD values u 0) sample) (getD masks u 0) ≡ 0 → admitting u ≡ true
+    admitting-yes e = sym (agrees-test (getD masks u 0) (getD values u 0) sample small) ∙ eq-eqb tested 0 e
+
+    pub admitting-no : (bitAnd (bitXor (getD values u 0) sample) (getD masks u 0) ≡ 0 → ⊥) → admitting u ≡ false
+    admitting-no e = sym (agrees-test (getD masks u 0) (getD values u 0) sample small) ∙ ne-eqb tested 0 e
+
+-- ---- the words below k are changed: each pair by its mark in either table
+
+-- `ts` with its words below k changed is `ts'`
+pub record Changed (op : Bool → Bool → Bool) (ts os ts' : List ℕ) (k : ℕ) : Type 0 where
+  pub long : length ts' ≡ length ts
+  pub words : (u v : ℕ) → marked ts' u v ≡ cond (ltb v k) (op (marked ts u v) (marked os u v)) (marked ts u v)
+
+module _ (op : Bool → Bool → Bool) (ts os : List ℕ) where
+  pub changed-start : Changed op ts os ts 0
+  changed-start = record { long = refl; words = λ u v. sym (rw (le-ltb v 0 zero-le) refl) }
+
+  module _ {ts' : List ℕ} {k : ℕ} (c : Changed op ts os ts' k) where
+    pub changed-step : (x : ℕ) → k < length ts' → members x ≡ (λ u. op (marked ts' u k) (marked os u k)) → Changed op ts os (set ts' k x) (k + 1)
+    changed-step x l e =
+        record {
+          long = length-set ts' k x ∙ c .long;
+          words = λ u v. ⊎-elim (λ (t : eqb v k ≡ true). here u v t) (λ (t : eqb v k ≡ false). away u v t) (split (eqb v k));
+        }
+      where
+        still : (u : ℕ) → marked ts' u k ≡ marked ts u k
+        still u = c .words u k ∙ rw (le-ltb k k (omega arith)) refl
+
+        here : (u v : ℕ) → eqb v k ≡ true
+            → marked (set ts' k x) u v ≡ cond (ltb v (k + 1)) (op (marked ts u v) (marked os u v)) (marked ts u v)
+        here u v t =
+            rw (eqb-true v k t, more-here k, getD-set-same ts' k x 0 l)
+            (ap (λ (X : Set). X u) e ∙ ap (λ (b : Bool). op b (marked os u k)) (still u))
+
+        away : (u v : ℕ) → eqb v k ≡ false
+            → marked (set ts' k x) u v ≡ cond (ltb v (k + 1)) (op (marked ts u v) (marked os u v)) (marked ts u v)
+        away u v t = rw (getD-set-other ts' k v x 0 (eqb-false v k t), more-other v k (eqb-false v k t)) (c .words u v)
+
+    -- all words are changed; past the end neither table has a pair
+    pub changed-end : op false false ≡ false → length os ≡ length ts → length ts' ≤ k → (length ts' ≡ length ts)
+        × ((u v : ℕ) → marked ts' u v ≡ op (marked ts u v) (marked os u v))
+    changed-end off same l = (c .long, λ u v. c .words u v ∙ ⊎-elim (λ (t : ltb v k ≡ true). rw t refl) (λ (t : ltb v k ≡ false). rest u v t) (split (ltb v k)))
+      where
+        unmarked : (xs : List ℕ) (u v : ℕ) → length xs ≤ v → marked xs u v ≡ false
+        unmarked xs u v h = ap (λ (x : ℕ). members x u) (List·getD-eq-default xs 0 h) ∙ zero-members u
+
+        rest : (u v : ℕ) → ltb v k ≡ false
+            → cond (ltb v k) (op (marked ts u v) (marked os u v)) (marked ts u v) ≡ op (marked ts u v) (marked os u v)
+        rest u v t =
+            let h = ltb-false v k t in
+            rw (t, unmarked ts u v (omega (arith, c .long)), unmarked os u v (omega (arith, c .long))) (sym off)
+
+-- ---- the pairs at the nodes below v
+
+module _ (ts : List ℕ) (n : ℕ) where
+  abbrev pub pairsTo : ℕ → ℕ
+  pairsTo v = count (v * n) (λ p. marked ts (p % n) (p / n))
+
+  pub pairs-none : 0 ≡ pairsTo 0
+  unfolding count total
+  pairs-none = sym (count-rows n 0 (λ p. marked ts (p % n) (p / n)))
+
+  module _ (few : n ≤ 16) (inside : (u v : ℕ) → marked ts u v ≡ true → u < n) (v : ℕ) where
+    row : count 32 (members (getD ts v 0)) ≡ count n (members (getD ts v 0))
+    row = count-beyond n 32 (members (getD ts v 0)) (λ u m. inside u v m) (omega arith)
+
+    pub row-few : count 32 (members (getD ts v 0)) ≤ 16
+    row-few = omega (arith, row, count-le n (members (getD ts v 0)))
+
+    pub pairs-more : pairsTo (v + 1) ≡ pairsTo v + count 32 (members (getD ts v 0))
+    unfolding total
+    pairs-more =
+        let X : Set = λ p. marked ts (p % n) (p / n) in
+        let here : count n (λ u. X (v * n + u)) ≡ count n (members (getD ts v 0)) =
+        count-same n (λ u. X (v * n + u)) (members (getD ts v 0)) (λ u l. ap₂ (marked ts) (digits-mod v l) (digits-div v l)) in
+        let all : count (suc v * n) X ≡ count n (λ u. X (v * n + u)) + total v (λ w. count n (λ u. X (w * n + u))) = count-rows n (suc v) X in
+        let before : count (v * n) X ≡ total v (λ w. count n (λ u. X (w * n + u))) = count-rows n v X in
+        rw (add-one v) (omega (arith, all, before, here, row))

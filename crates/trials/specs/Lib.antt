@@ -1,0 +1,2 @@
+-- What the growth of a trial set computes.
+pub mod Growth

@@ -1,0 +1,91 @@
+// The trial set: it is grown from its seeds, node by node, until no pair is missing.
+ghost use mathlib.Core.Path.{_≡_};
+ghost use mathlib.Core.Bool.{true};
+ghost use Prim.Native.Nat.{ℕ, _<_, _≤_};
+ghost use lib.ListN.{length};
+ghost use Rattle.bits.specs.Word.{members};
+ghost use Rattle.session.specs.Limits.{maxNodes};
+ghost use Rattle.refinement.specs.Tables.{marked, waits, Indexed, Sound};
+ghost use Rattle.trials.specs.Growth.{linksTo, Tried, Spread, Grown};
+use refinement::worklist::lowest_in;
+use refinement::worklist::put_in;
+use refinement::worklist::take_out;
+
+// The states with a link to a state of the word.
+pub fn linking(links: &[u32], word: u32) -> u32
+    requires { ⌜ length (now links) ≤ 32 ⌝ }
+    ensures { λ r. ⌜ members r ≡ linksTo (now (links .entry)) word ⌝ }
+{
+    let mut all = 0;
+    let mut u = 0;
+    while u < links.len() {
+        if links[u] & word != 0 {
+            all = bits::added(all, u as u32);
+        }
+        u += 1;
+    }
+    all
+}
+
+// Tries more states at a node. It waits where it gains one, for its predecessors may gain by it.
+pub fn try_at(trials: &mut [u32], waiting: &mut [u32], node: usize, more: u32)
+    requires { ⌜ (length (now trials) ≡ maxNodes) × (length (now waiting) ≡ 16) × (node < maxNodes) ⌝ }
+    ensures { λ r. ⌜ Tried (now (trials .entry)) (now (waiting .entry)) node more (now (trials .exit)) (now (waiting .exit)) ⌝ }
+{
+    let word = trials[node];
+    let wider = bits::united(word, more);
+    if wider != word {
+        trials[node] = wider;
+        put_in(waiting, node);
+    }
+}
+
+// Looks at the node v, which no longer waits: the fresh pairs at its predecessors with a link to a pair at v are tried too.
+pub fn spread(
+    links: &[u32],
+    edges: &[u32],
+    fresh: &[u32],
+    trials: &mut [u32],
+    waiting: &mut [u32],
+    heads: &[u32],
+    nexts: &[u32],
+    v: usize,
+)
+    requires { ⌜ (length (now fresh) ≡ maxNodes) × (length (now trials) ≡ maxNodes) × (length (now waiting) ≡ 16) × (v < maxNodes) ⌝ }
+    requires { ⌜ Sound maxNodes (now links) (now edges) × Indexed (now edges) (now heads) (now nexts) ⌝ }
+    ensures { λ r. ⌜ Spread (now (links .entry)) (now (edges .entry)) (now (fresh .entry)) (now (trials .entry)) (now (waiting .entry)) v (now (trials .exit)) (now (waiting .exit)) ⌝ }
+{
+    take_out(waiting, v);
+    let able = linking(links, trials[v]);
+    let mut next = heads[v] as usize;
+    while next != 0 {
+        let k = next - 1;
+        let start = (edges[k] / session::EDGE_BASE) as usize;
+        try_at(trials, waiting, start, able & fresh[start]);
+        next = nexts[k] as usize;
+    }
+}
+
+// Grows the seeds to the trial set, from the nodes that wait, the lowest first.
+pub fn grow(
+    links: &[u32],
+    edges: &[u32],
+    nodes: usize,
+    fresh: &[u32],
+    trials: &mut [u32],
+    waiting: &mut [u32],
+    heads: &[u32],
+    nexts: &[u32],
+)
+    requires { ⌜ (length (now fresh) ≡ maxNodes) × (length (now trials) ≡ maxNodes) × (length (now waiting) ≡ 16) ⌝ }
+    requires { ⌜ Sound nodes (now links) (now edges) × Indexed (now edges) (now heads) (now nexts) ⌝ }
+    requires { ⌜ ((u v : ℕ) → marked (now fresh) u v ≡ true → (u < length (now links)) × (v < nodes)) ⌝ }
+    requires { ⌜ ((u v : ℕ) → marked (now trials) u v ≡ true → (marked (now fresh) u v ≡ true) × (waits (now waiting) v ≡ true)) ⌝ }
+    ensures { λ r. ⌜ Grown nodes (now (links .entry)) (now (edges .entry)) (now (fresh .entry)) (now (trials .entry)) (now (trials .exit)) ⌝ }
+{
+    let mut v = lowest_in(waiting);
+    while v < nodes {
+        spread(links, edges, fresh, trials, waiting, heads, nexts, v);
+        v = lowest_in(waiting);
+    }
+}
