@@ -36,7 +36,7 @@ seedsOf xs a b u =
     let g = graphOf xs in
     ltb u (states t) && (fresh t g (marksOf xs) u a && anyBelow (states t) (λ u'. linked t u u' && admits t g u' b))
 
--- the pairs of X have their support in Y
+-- the pairs that Y supports
 abbrev pub backed : List ℕ → Set → Set
 backed xs Y = supported (system (pattern (triggerOf xs) (graphOf xs))) Y
 

@@ -73,19 +73,19 @@ module _ (n : ℕ) (bs cs : List ℕ) where
       join-short (λ p. at-pair (p % n) (p / n))
       (λ p. change-short (marked bs (p % n) (p / n)) (marked cs (p % n) (p / n)) (sizeOf (p % n) (p / n))) (v * n)
 
--- ---- the room
+-- ---- the room, and any list that is written into another
 
-pub placed-start : (room : List ℤ) (at : ℕ) → Placed room at [] room at
+pub placed-start : {A : Type 0} (room : List A) (at : ℕ) → Placed room at [] room at
 placed-start room at = record { written = rw add-zero (sym (take-append-drop at room)); past = omega arith }
 
 -- a list after another
-pub placed-append : {room l₁ room₁ l₂ room₂ : List ℤ} {at n₁ n₂ : ℕ} → at ≤ length room → Placed room at l₁ room₁ n₁ → Placed room₁ n₁ l₂ room₂ n₂
+pub placed-append : {A : Type 0} {room l₁ room₁ l₂ room₂ : List A} {at n₁ n₂ : ℕ} → at ≤ length room → Placed room at l₁ room₁ n₁ → Placed room₁ n₁ l₂ room₂ n₂
     → Placed room at (l₁ ++ l₂) room₂ n₂
-placed-append {room} {l₁} {room₁} {l₂} {room₂} {at} {n₁} {n₂} h p q =
+placed-append {A} {room} {l₁} {room₁} {l₂} {room₂} {at} {n₁} {n₂} h p q =
     record {
-      written = q .written ∙ ap₂ (λ (x y : List ℤ). x ++ (l₂ ++ y)) front back
+      written = q .written ∙ ap₂ (λ (x y : List A). x ++ (l₂ ++ y)) front back
           ∙ append-assoc (take at room) l₁ (l₂ ++ drop (at + length (l₁ ++ l₂)) room)
-          ∙ ap (λ (x : List ℤ). take at room ++ x) (sym (append-assoc l₁ l₂ (drop (at + length (l₁ ++ l₂)) room)));
+          ∙ ap (λ (x : List A). take at room ++ x) (sym (append-assoc l₁ l₂ (drop (at + length (l₁ ++ l₂)) room)));
       past = omega (arith, p .past, q .past, length-append l₁ l₂);
     }
   where
@@ -103,12 +103,12 @@ placed-append {room} {l₁} {room₁} {l₂} {room₂} {at} {n₁} {n₂} h p q 
         rw (apart, ← long, drop-append-add (take at room ++ l₁) (drop (at + length l₁) room) (length l₂), drop-drop, length-append, add-assoc)
 
 -- one number
-pub placed-one : (room : List ℤ) (at : ℕ) (z : ℤ) → at < length room → Placed room at (z ∷ []) (set room at z) (at + 1)
+pub placed-one : {A : Type 0} (room : List A) (at : ℕ) (z : A) → at < length room → Placed room at (z ∷ []) (set room at z) (at + 1)
 placed-one room at z h = record { written = rw add-one (set-split room at z h); past = refl }
 
 -- the room keeps its length
-pub placed-long : {room list now : List ℤ} {at next : ℕ} → Placed room at list now next → next ≤ length room → length now ≡ length room
-placed-long {room} {list} {now} {at} {next} p h =
+pub placed-long : {A : Type 0} {room list now : List A} {at next : ℕ} → Placed room at list now next → next ≤ length room → length now ≡ length room
+placed-long {A} {room} {list} {now} {at} {next} p h =
     omega (
       arith,
       ap length (p .written),

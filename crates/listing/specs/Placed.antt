@@ -17,6 +17,6 @@ tableChanges n m bs cs =
     joinTo (m * n) (λ p. change (marked bs (p % n) (p / n)) (marked cs (p % n) (p / n)) (sizeOf (p % n) (p / n)))
 
 -- the list is put into the room from the place `at` on, and `next` is the place after it
-pub record Placed (room : List ℤ) (at : ℕ) (list room' : List ℤ) (next : ℕ) : Type 0 where
+pub record Placed {A : Type 0} (room : List A) (at : ℕ) (list room' : List A) (next : ℕ) : Type 0 where
   pub written : room' ≡ take at room ++ (list ++ drop (at + length list) room)
   pub past : next ≡ at + length list

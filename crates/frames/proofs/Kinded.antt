@@ -1,0 +1,97 @@
+-- What a line says, kind by kind.
+use Prim.Native.Nat.{ℕ, _+_, _<_, _≤_}
+use native.Mathlib.Omega.{arith}
+use mathlib.Core.Path.{_≡_, refl, sym, _∙_, ap}
+use mathlib.Core.Bool.{Bool, true, false, not, _&&_, cond}
+use mathlib.Core.List.{List}
+use lib.Dec.{ltb, leb}
+use lib.ListN.{length, getD, take, drop, length-take, length-drop}
+use lib.Seq.{getD-take, getD-drop}
+use borrow.Author.Tests.{eq-eqb, ne-eqb, le-leb, lt-leb, lt-ltb, not-true}
+use Rattle.simulation.proofs.Sets.{all-make}
+use Rattle.promises.specs.Rules.{insertion, deletion}
+use Rattle.frames.specs.Digits.{digit, hexadecimal, number}
+use Rattle.frames.specs.Frames.{Frame, state, node, run, edit, walk, nothing, field, spoken, frameOf}
+use Rattle.frames.proofs.Hex.{digit-fits}
+
+-- a part of digits is of digits
+pub hex-part : (bs : List ℕ) (at n : ℕ) → hexadecimal bs ≡ true → at + n ≤ length bs → hexadecimal (take n (drop at bs)) ≡ true
+unfolding hexadecimal
+hex-part bs at n h room =
+    all-make (length (take n (drop at bs))) (λ i. ltb (digit (getD (take n (drop at bs)) i 0)) 16)
+    (λ i l.
+    let k : i < n = omega (arith, length-take n (drop at bs), length-drop at bs) in
+    ap (λ (c : ℕ). ltb (digit c) 16) (getD-take n (drop at bs) i 0 k ∙ getD-drop at bs i 0)
+    ∙ lt-ltb (digit (getD bs (at + i) 0)) 16 (digit-fits bs h (at + i) (omega arith)))
+
+module _ (ds : List ℕ) where
+  -- ---- fields of a wrong length
+
+  pub state-wrong : (length ds ≡ 12 → ⊥) → nothing ≡ spoken 1 ds
+  unfolding spoken
+  state-wrong h = rw (ne-eqb (length ds) 12 h)
+
+  pub node-wrong : (length ds ≡ 4 → ⊥) → nothing ≡ spoken 2 ds
+  unfolding spoken
+  node-wrong h = rw (ne-eqb (length ds) 4 h)
+
+  pub edge-wrong : (b : Bool) → (length ds ≡ 8 → ⊥) → nothing ≡ spoken (cond b 4 5) ds
+  unfolding spoken
+  edge-wrong true h = rw (ne-eqb (length ds) 8 h)
+  edge-wrong false h = rw (ne-eqb (length ds) 8 h)
+
+  pub bare-wrong : (b : Bool) → (length ds ≡ 0 → ⊥) → nothing ≡ spoken (cond b 3 6) ds
+  unfolding spoken
+  bare-wrong true h = rw (ne-eqb (length ds) 0 h)
+  bare-wrong false h = rw (ne-eqb (length ds) 0 h)
+
+  -- ---- and of the right one
+
+  pub state-right : length ds ≡ 12 → state (field ds 0) (field ds 4) (field ds 8) ≡ spoken 1 ds
+  unfolding spoken
+  state-right e = rw (eq-eqb (length ds) 12 e)
+
+  pub node-right : length ds ≡ 4 → node (field ds 0) ≡ spoken 2 ds
+  unfolding spoken
+  node-right e = rw (eq-eqb (length ds) 4 e)
+
+  pub insert-right : length ds ≡ 8 → edit insertion (field ds 0) (field ds 4) ≡ spoken 4 ds
+  unfolding spoken
+  insert-right e = rw (eq-eqb (length ds) 8 e)
+
+  pub delete-right : length ds ≡ 8 → edit deletion (field ds 0) (field ds 4) ≡ spoken 5 ds
+  unfolding spoken
+  delete-right e = rw (eq-eqb (length ds) 8 e)
+
+  pub run-right : length ds ≡ 0 → run ≡ spoken 3 ds
+  unfolding spoken
+  run-right e = rw (eq-eqb (length ds) 0 e)
+
+  pub walk-right : length ds ≡ 0 → walk ≡ spoken 6 ds
+  unfolding spoken
+  walk-right e = rw (eq-eqb (length ds) 0 e)
+
+  -- ---- no other kind
+
+  pub kind-other : (k : ℕ) → (k ≡ 1 → ⊥) → (k ≡ 2 → ⊥) → (k ≡ 3 → ⊥) → (k ≡ 4 → ⊥) → (k ≡ 5 → ⊥) → (k ≡ 6 → ⊥) → nothing ≡ spoken k ds
+  unfolding spoken
+  kind-other k a b c d e f = rw (ne-eqb k 1 a, ne-eqb k 2 b, ne-eqb k 3 c, ne-eqb k 4 d, ne-eqb k 5 e, ne-eqb k 6 f)
+
+-- ---- a line
+
+module _ (line : List ℕ) where
+  pub line-short : length line < 2 → nothing ≡ frameOf line
+  unfolding frameOf
+  line-short l = rw (lt-leb 2 (length line) l)
+
+  pub line-other : not (hexadecimal line) ≡ true → nothing ≡ frameOf line
+  unfolding frameOf
+  line-other h = other (leb 2 (length line)) (hexadecimal line) (not-true (hexadecimal line) h)
+    where
+      other : (a b : Bool) → b ≡ false → nothing ≡ cond (a && b) (spoken (number (take 2 line)) (drop 2 line)) nothing
+      other true b e = rw e
+      other false b e = refl
+
+  pub line-spoken : 2 ≤ length line → hexadecimal line ≡ true → spoken (number (take 2 line)) (drop 2 line) ≡ frameOf line
+  unfolding frameOf
+  line-spoken l h = rw (le-leb 2 (length line) l, h)

@@ -1,0 +1,7 @@
+-- The laws of digits and frames.
+pub mod Hex
+pub mod Kinded
+pub mod Written
+pub mod Listed
+pub mod Fronts
+pub mod Samples

@@ -1,0 +1,52 @@
+-- Lines and answers, computed from the definitions.
+use mathlib.Core.Path.{_≡_, refl}
+use mathlib.Core.Bool.{true, false}
+use mathlib.Core.List.{List, [], _∷_, _++_, map}
+use Prim.Native.Nat.{ℕ}
+use Rattle.promises.specs.Rules.{insertion, deletion}
+use Rattle.simulation.specs.Sets.{allBelow}
+use Rattle.bits.specs.Word.{word}
+use Rattle.frames.specs.Digits.{digit, hexadecimal, numberFrom, letter, place, digits}
+use Rattle.frames.specs.Frames.{Frame, state, node, run, edit, walk, nothing, spoken, frameOf}
+use Rattle.frames.specs.Lines.{lines}
+use Rattle.frames.specs.Outputs.{refusal, accepted}
+
+-- 01FFFF00010002, 020001, 03, 0400000001, 0500010000, 06
+pub state-line : List ℕ
+state-line = 48 ∷ 49 ∷ 70 ∷ 70 ∷ 70 ∷ 70 ∷ 48 ∷ 48 ∷ 48 ∷ 49 ∷ 48 ∷ 48 ∷ 48 ∷ 50 ∷ []
+
+pub node-line : List ℕ
+node-line = 48 ∷ 50 ∷ 48 ∷ 48 ∷ 48 ∷ 49 ∷ []
+
+pub insert-line : List ℕ
+insert-line = 48 ∷ 52 ∷ 48 ∷ 48 ∷ 48 ∷ 48 ∷ 48 ∷ 48 ∷ 48 ∷ 49 ∷ []
+
+pub delete-line : List ℕ
+delete-line = 48 ∷ 53 ∷ 48 ∷ 48 ∷ 48 ∷ 49 ∷ 48 ∷ 48 ∷ 48 ∷ 48 ∷ []
+
+-- and what is no frame: nothing, one digit, a blank after 03, a lower-case letter, a digit too many, the kinds 00 and 07
+pub wrong : List (List ℕ)
+wrong =
+    []
+    ∷ (48 ∷ [])
+    ∷ (48 ∷ 51 ∷ 32 ∷ [])
+    ∷ (48 ∷ 50 ∷ 48 ∷ 48 ∷ 48 ∷ 97 ∷ [])
+    ∷ (48 ∷ 54 ∷ 48 ∷ [])
+    ∷ (48 ∷ 48 ∷ [])
+    ∷ (48 ∷ 55 ∷ [])
+    ∷ []
+
+pub read : map frameOf (state-line ∷ node-line ∷ (48 ∷ 51 ∷ []) ∷ insert-line ∷ delete-line ∷ (48 ∷ 54 ∷ []) ∷ wrong)
+    ≡ state 0xFFFF 1 2 ∷ node 1 ∷ run ∷ edit insertion 0 1 ∷ edit deletion 1 0 ∷ walk ∷ nothing ∷ nothing ∷ nothing ∷ nothing ∷ nothing ∷ nothing ∷ nothing ∷ []
+unfolding frameOf spoken hexadecimal digit numberFrom state-line node-line insert-line delete-line wrong allBelow
+read = refl
+
+-- 800100020002 and 8F0C, each with its line feed
+pub wrote : (accepted true 2 2 ≡ 56 ∷ 48 ∷ 48 ∷ 49 ∷ 48 ∷ 48 ∷ 48 ∷ 50 ∷ 48 ∷ 48 ∷ 48 ∷ 50 ∷ 10 ∷ []) × (refusal 12 ≡ 56 ∷ 70 ∷ 48 ∷ 67 ∷ 10 ∷ [])
+unfolding accepted refusal digits letter place word
+wrote = (refl, refl)
+
+-- a line feed at the end begins no line; an empty line is one; input may end without a line feed
+pub cut : (lines (1 ∷ 10 ∷ 10 ∷ 2 ∷ []) ≡ (1 ∷ []) ∷ [] ∷ (2 ∷ []) ∷ []) × (lines (1 ∷ 10 ∷ []) ≡ (1 ∷ []) ∷ []) × (lines [] ≡ [])
+unfolding Rattle.frames.specs.Lines.linesAfter
+cut = (refl, refl, refl)

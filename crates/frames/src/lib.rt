@@ -1,0 +1,28 @@
+// Frames: a line of bytes is read, and answers are written as lines.
+pub mod answers;
+pub mod digits;
+pub mod lines;
+pub mod reading;
+pub mod writing;
+
+pub struct State {
+    pub mask: u32,
+    pub value: u32,
+    pub links: u32,
+}
+
+pub struct Edge {
+    pub start: u32,
+    pub end: u32,
+}
+
+// What a line says: a frame of one of the kinds, or nothing that is a frame.
+pub enum Frame {
+    State(State),
+    Node(u32),
+    Run,
+    Insert(Edge),
+    Delete(Edge),
+    Walk,
+    Nothing,
+}
