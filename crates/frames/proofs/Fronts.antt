@@ -5,7 +5,7 @@ use native.Mathlib.Numerals.{add-one}
 use mathlib.Core.Path.{_≡_, refl, sym, _∙_, ap, ap₂}
 use mathlib.Core.Logic.{⊎-elim}
 use mathlib.Core.Bool.{Bool, true, false, _&&_, cond}
-use mathlib.Core.List.{List, [], _∷_, _++_}
+use mathlib.Core.List.{List, [], _∷_, _++_, map}
 use lib.Dec.{leb, eqb}
 use lib.ListN.{length, set, take, drop, length-append, length-take, length-drop}
 use lib.Seq.{take-all, take-append-le, take-suc-set, take-take, length-take-le}
@@ -13,7 +13,7 @@ use borrow.Author.Tests.{ne-eqb}
 use Rattle.simulation.proofs.Search.{lt-or-le}
 use Rattle.frames.specs.Digits.{hexadecimal, number}
 use Rattle.frames.specs.Frames.{Frame, nothing, spoken, frameOf}
-use Rattle.frames.specs.Lines.{kept}
+use Rattle.frames.specs.Lines.{linesAfter, lines, kept, gathered}
 
 and-none : (a b : Bool) → b ≡ false → (a && b) ≡ false
 and-none true b e = e
@@ -57,3 +57,37 @@ pushed-out front used c l h room =
     let full : used ≡ kept = omega arith in
     let long : length (take used front) ≡ used = length-take-le used front (omega arith) in
     sym (take-append-le kept (take used front) (c ∷ []) (omega (arith, long)) ∙ take-all kept (take used front) (omega (arith, long)))
+
+-- ---- the lines of an input, from their fronts
+
+front-more : (line : List ℕ) (c : ℕ) → take kept (take kept line ++ (c ∷ [])) ≡ take kept (line ++ (c ∷ []))
+front-more line c =
+    ⊎-elim
+    (λ l.
+    let long : length (take kept line) ≡ kept = length-take-le kept line (omega arith) in
+    take-append-le kept (take kept line) (c ∷ []) (omega (arith, long))
+    ∙ take-take kept kept line (omega arith)
+    ∙ sym (take-append-le kept line (c ∷ []) (omega arith)))
+    (λ l. ap (λ (w : List ℕ). take kept (w ++ (c ∷ []))) (take-all kept line (omega arith)))
+    (lt-or-le 14 (length line))
+
+pub gathered-fronts : (line cs : List ℕ) → gathered (take kept line) cs ≡ map (take kept) (linesAfter line cs)
+unfolding gathered linesAfter
+gathered-fronts [] [] = refl
+gathered-fronts (b ∷ line) [] = refl
+gathered-fronts line (c ∷ cs) = by (eqb c 10) (gathered-fronts [] cs) (gathered-fronts (line ++ (c ∷ [])) cs)
+  where
+    by : (b : Bool) → gathered [] cs ≡ map (take kept) (linesAfter [] cs)
+        → gathered (take kept (line ++ (c ∷ []))) cs ≡ map (take kept) (linesAfter (line ++ (c ∷ [])) cs)
+        → cond b (take kept line ∷ gathered [] cs) (gathered (take kept (take kept line ++ (c ∷ []))) cs)
+        ≡ map (take kept) (cond b (line ∷ linesAfter [] cs) (linesAfter (line ++ (c ∷ [])) cs))
+    by true ended more = ap (λ (ls : List (List ℕ)). take kept line ∷ ls) ended
+    by false ended more = ap (λ (w : List ℕ). gathered w cs) (front-more line c) ∙ more
+
+map-fronts : (ls : List (List ℕ)) → map frameOf (map (take kept) ls) ≡ map frameOf ls
+map-fronts [] = refl
+map-fronts (line ∷ ls) = ap₂ (λ (x : Frame) (xs : List Frame). x ∷ xs) (front-enough line) (map-fronts ls)
+
+-- what is gathered from an input has the frames of its lines
+pub gathered-frames : (bytes : List ℕ) → map frameOf (gathered [] bytes) ≡ map frameOf (lines bytes)
+gathered-frames bytes = ap (map frameOf) (gathered-fronts [] bytes) ∙ map-fronts (lines bytes)
