@@ -3,7 +3,7 @@ use Prim.Native.Nat.{ℕ, zero, suc, _+_, _-_, _*_, _^_, _<_, _≤_}
 use native.Mathlib.Nat.{pow-suc}
 use native.Mathlib.Omega.{arith}
 use native.Mathlib.Numerals.{add-one}
-use mathlib.Core.Path.{_≡_, refl, sym, _∙_, ap}
+use mathlib.Core.Path.{_≡_, refl, sym, _∙_, ap, subst}
 use mathlib.Core.Bool.{Bool, true, false, _&&_, cond}
 use mathlib.Core.List.{List, [], _∷_}
 use lib.Dec.{ltb, leb}
@@ -70,3 +70,19 @@ reading-fits ds v (suc zero) r few l = omega (arith, r .small)
 reading-fits ds v (suc (suc zero)) r few l = omega (arith, r .small)
 reading-fits ds v (suc (suc (suc zero))) r few l = omega (arith, r .small)
 reading-fits ds v (suc (suc (suc (suc k)))) r few l = absurd (omega arith)
+
+-- and four digits make a word of 16 bits
+pub number-fits : (ds : List ℕ) → hexadecimal ds ≡ true → length ds ≤ 4 → number ds < 65536
+number-fits ds hex few = by (length ds) refl few (whole (length ds) (omega arith))
+  where
+    whole : (k : ℕ) → k ≤ length ds → (v : ℕ) × Reading ds v k
+    whole zero l = (0, reading-start ds hex)
+    whole (suc k) l = let w = whole k (omega arith) in (w .0 * 16 + digit (getD ds k 0), subst (λ (j : ℕ). Reading ds (w .0 * 16 + digit (getD ds k 0)) j) (add-one k) (reading-more ds hex (w .0) k (w .1) (omega arith)))
+
+    by : (n : ℕ) → length ds ≡ n → n ≤ 4 → ((v : ℕ) × Reading ds v n) → number ds < 65536
+    by zero e l w = rw (← reading-end ds hex (w .0) 0 (w .1) (omega arith)) (omega (arith, w .1 .small))
+    by (suc zero) e l w = rw (← reading-end ds hex (w .0) 1 (w .1) (omega arith)) (omega (arith, w .1 .small))
+    by (suc (suc zero)) e l w = rw (← reading-end ds hex (w .0) 2 (w .1) (omega arith)) (omega (arith, w .1 .small))
+    by (suc (suc (suc zero))) e l w = rw (← reading-end ds hex (w .0) 3 (w .1) (omega arith)) (omega (arith, w .1 .small))
+    by (suc (suc (suc (suc zero)))) e l w = rw (← reading-end ds hex (w .0) 4 (w .1) (omega arith)) (omega (arith, w .1 .small))
+    by (suc (suc (suc (suc (suc n))))) e l w = absurd (omega arith)

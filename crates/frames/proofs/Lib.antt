@@ -4,4 +4,7 @@ pub mod Kinded
 pub mod Written
 pub mod Listed
 pub mod Fronts
+pub mod Numbers
+pub mod Few
+pub mod Takes
 pub mod Samples

@@ -4,6 +4,7 @@ use native.Mathlib.Nat.{suc-mul, add-comm}
 use native.Mathlib.Numerals.{add-one}
 use native.Mathlib.Omega.{arith}
 use mathlib.Core.Path.{_≡_, refl, sym, _∙_, ap, ap₂, subst}
+use mathlib.Core.Bool.{Bool, cond}
 use mathlib.Core.List.{List, [], _∷_, _++_, append-assoc, append-nil}
 use lib.IntN.{ℤ}
 use lib.ListN.{length, getD, take, length-append, length-take}
@@ -11,8 +12,8 @@ use lib.Seq.{take-suc, take-all, length-take-le}
 use Rattle.listing.specs.Placed.{Placed}
 use Rattle.listing.proofs.Placing.{placed-start, placed-append, placed-long}
 use Rattle.frames.specs.Digits.{digits}
-use Rattle.frames.specs.Outputs.{complement, changed, each}
-use Rattle.frames.proofs.Written.{digits-long}
+use Rattle.frames.specs.Outputs.{complement, accepted, changed, each}
+use Rattle.frames.proofs.Written.{digits-long, pair-long}
 
 module _ {A : Type 0} (f : A → List ℕ) where
   each-append : (xs ys : List A) → each f (xs ++ ys) ≡ each f xs ++ each f ys
@@ -71,3 +72,15 @@ changed-long z =
 -- two bytes a state, after the kind
 pub states-long : (kind : ℕ) (us : List ℕ) → length (digits 2 kind ++ each (digits 2) us) ≡ 2 + length us * 2
 states-long kind us = length-append (digits 2 kind) (each (digits 2) us) ∙ ap₂ _+_ (digits-long 2 kind) (each-long (digits 2) 2 (digits-long 2) us)
+
+-- a report takes thirteen
+pub accepted-long : (fires : Bool) (trials changes : ℕ) → length (accepted fires trials changes) ≡ 13
+unfolding accepted
+accepted-long fires trials changes =
+    let counts = digits 4 trials ++ digits 4 changes in
+    let fields = digits 2 (cond fires 1 0) ++ counts in
+    length-append (digits 2 128) (fields ++ (10 ∷ []))
+    ∙ ap₂ _+_ (digits-long 2 128)
+    (length-append fields (10 ∷ [])
+    ∙ ap (λ (m : ℕ). m + 1)
+    (length-append (digits 2 (cond fires 1 0)) counts ∙ ap₂ _+_ (digits-long 2 (cond fires 1 0)) (pair-long 4 trials changes)))

@@ -3,6 +3,8 @@ use Prim.Native.Nat.{ℕ, _-_}
 use mathlib.Core.Bool.{Bool, cond}
 use mathlib.Core.List.{List, [], _∷_, _++_}
 use lib.IntN.{ℤ, pos, negsuc}
+use lib.ListN.{length, take}
+use Rattle.promises.specs.Answers as A
 use Rattle.frames.specs.Digits.{digits}
 
 -- a kind, what follows it, and the line feed
@@ -33,3 +35,16 @@ each f (x ∷ xs) = f x ++ each f xs
 -- "`82` walk order (2 digits a state)"
 unfoldable pub walked : List ℕ → List ℕ
 walked states = line 0x82 (each (digits 2) states)
+
+-- a report with its changes
+unfoldable pub reported : Bool → ℕ → List ℤ → List ℕ
+reported fires trials list = accepted fires trials (length list) ++ each changed list
+
+-- an answer of the library with the list that it hands back, and an order of states
+abbrev pub answered : A.Outcome A.Summary → List ℤ → List ℕ
+answered (A.accepted s) list = accepted (s .fires) (s .trials) (s .changes) ++ each changed list
+answered (A.refused n) list = refusal n
+
+abbrev pub ordered : A.Outcome ℕ → List ℕ → List ℕ
+ordered (A.accepted n) states = walked (take n states)
+ordered (A.refused n) states = refusal n

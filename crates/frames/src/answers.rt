@@ -4,11 +4,15 @@ ghost use mathlib.Core.List.{[], _∷_, _++_};
 ghost use Prim.Native.Nat.{ℕ, _+_, _*_, _<_, _≤_};
 ghost use lib.ListN.{length};
 ghost use Rattle.listing.specs.Placed.{Placed};
+ghost use Rattle.promises.specs.Answers.{told, firing, handedBack};
 ghost use Rattle.frames.specs.Digits as d;
 ghost use Rattle.frames.specs.Outputs as o;
 use super::writing::put_digits;
 use listing::changes::begins;
 use listing::changes::size_of;
+use matching::Answer;
+use matching::Firing;
+use matching::changed_part;
 
 // Writes one byte.
 pub fn put_byte(out: &mut [u8], at: usize, byte: u8) -> usize
@@ -115,4 +119,29 @@ pub fn put_order(out: &mut [u8], at: usize, states: &[u8]) -> usize
     let kind = put_digits(out, at, 2, 130);
     let next = put_states(out, kind, states);
     put_byte(out, next, 10)
+}
+
+// Whether a report says that the trigger fires.
+pub fn says(answer: Firing) -> bool
+    ensures { λ r. ⌜ r ≡ firing answer ⌝ }
+{
+    match answer {
+        Firing::Fires => true,
+        Firing::Silent => false,
+    }
+}
+
+// Writes the lines of an answer with the changes of a room.
+pub fn put_answer(out: &mut [u8], answer: Answer, room: &[i32]) -> usize
+    requires { ⌜ 13 + 11 * length (handedBack (now room) answer) ≤ length (now out) ⌝ }
+    ensures { λ r. ⌜ Placed (now (out .entry)) 0 (o.answered (told answer) (handedBack (now (room .entry)) answer)) (now (out .exit)) r ⌝ }
+{
+    match answer {
+        Answer::Accepted(report) => {
+            let firing = report.firing;
+            let next = put_report(out, 0, says(firing), report.trials, report.changes);
+            put_changes(out, next, changed_part(room, answer))
+        }
+        Answer::Refused(rule) => put_refusal(out, 0, rule),
+    }
 }

@@ -52,3 +52,11 @@ pub fn number(digits: &[u8]) -> u32
     }
     value
 }
+
+// The same, as a word of 16 bits.
+pub fn half(digits: &[u8]) -> u16
+    requires { ⌜ (length (now digits) ≤ 4) × (d.hexadecimal (now digits) ≡ true) ⌝ }
+    ensures { λ r. ⌜ r ≡ d.number (now (digits .entry)) ⌝ }
+{
+    number(digits) as u16
+}

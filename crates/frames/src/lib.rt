@@ -1,13 +1,14 @@
-// Frames: a line of bytes is read, and answers are written as lines.
+// Frames: a line of bytes is read, the machine carries it out, and answers are written as lines.
 pub mod answers;
 pub mod digits;
 pub mod lines;
+pub mod machine;
 pub mod reading;
 pub mod writing;
 
 pub struct State {
-    pub mask: u32,
-    pub value: u32,
+    pub mask: u16,
+    pub value: u16,
     pub links: u32,
 }
 
@@ -19,7 +20,7 @@ pub struct Edge {
 // What a line says: a frame of one of the kinds, or nothing that is a frame.
 pub enum Frame {
     State(State),
-    Node(u32),
+    Node(u16),
     Run,
     Insert(Edge),
     Delete(Edge),

@@ -6,6 +6,7 @@ ghost use Rattle.frames.specs.Frames as f;
 use super::Edge;
 use super::Frame;
 use super::State;
+use super::digits::half;
 use super::digits::hexadecimal;
 use super::digits::number;
 
@@ -17,8 +18,8 @@ pub fn state_frame(fields: &[u8]) -> Frame
     if fields.len() != 12 {
         return Frame::Nothing;
     }
-    let mask = number(&fields[0..4]);
-    let value = number(&fields[4..8]);
+    let mask = half(&fields[0..4]);
+    let value = half(&fields[4..8]);
     let links = number(&fields[8..12]);
     Frame::State(State { mask, value, links })
 }
@@ -31,7 +32,7 @@ pub fn node_frame(fields: &[u8]) -> Frame
     if fields.len() != 4 {
         return Frame::Nothing;
     }
-    Frame::Node(number(&fields[0..4]))
+    Frame::Node(half(&fields[0..4]))
 }
 
 // The fields of an edit: start and end.

@@ -12,7 +12,7 @@ use lib.ListN.{length, getD, length-map, List·getD-map}
 use borrow.Author.Tests.{ltb-true, ltb-false, lt-ltb, le-ltb, eqb-true, eqb-false, eq-eqb, ne-eqb, not-false}
 use Rattle.simulation.specs.Sets.{allBelow}
 use Rattle.simulation.specs.Ordered.{elem, ascends}
-use Rattle.simulation.proofs.Sets.{clash, and-make, and-l, and-r, or-l, or-r, or-take, all-make, all-take, split}
+use Rattle.simulation.proofs.Sets.{and-make, and-l, and-r, or-l, or-r, or-false-l, or-false-r, or-take, all-make, all-take, split}
 use Rattle.simulation.proofs.Ordered.{Rising, elem-at, elem-index, rising-take, ascending}
 use Rattle.session.specs.Limits.{maxStates, maxNodes, maxEdges, maxChanges, fixedSize, wordBits}
 use Rattle.session.specs.Trigger.{states, nodes, edgeNumber}
@@ -22,14 +22,6 @@ use Rattle.session.proofs.Valid.{TriggerFacts, GraphFacts}
 use Rattle.promises.specs.Rules.{verdict, Given, givenTrigger, givenGraph, precedes, loadRules}
 use Rattle.promises.specs.Model.{Model, freshly}
 use Rattle.promises.proofs.Verdicts.{verdict-skip, verdict-pass, verdict-none}
-
-or-false-l : (a b : Bool) → (a || b) ≡ false → a ≡ false
-or-false-l true b h = h
-or-false-l false b h = refl
-
-or-false-r : (a b : Bool) → (a || b) ≡ false → b ≡ false
-or-false-r true b h = clash refl h
-or-false-r false b h = h
 
 or-false : {a b : Bool} → a ≡ false → b ≡ false → (a || b) ≡ false
 or-false p q = rw (p, q)

@@ -45,6 +45,14 @@ pub or-r : (a : Bool) {b : Bool} → b ≡ true → (a || b) ≡ true
 or-r true p = refl
 or-r false p = p
 
+pub or-false-l : (a b : Bool) → (a || b) ≡ false → a ≡ false
+or-false-l true b h = h
+or-false-l false b h = refl
+
+pub or-false-r : (a b : Bool) → (a || b) ≡ false → b ≡ false
+or-false-r true b h = clash refl h
+or-false-r false b h = h
+
 pub or-take : (a b : Bool) → (a || b) ≡ true → (a ≡ true) ⊎ (b ≡ true)
 or-take true b h = inl refl
 or-take false b h = inr h

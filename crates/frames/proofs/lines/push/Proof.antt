@@ -1,8 +1,6 @@
 -- There is room for the byte, or the front is full.
 use borrow.Author.Needs.{needs}
 use native.Mathlib.Omega.{arith}
-use mathlib.Core.Path.{refl}
-use lib.ListN.{length-set}
 use Rattle.frames.proofs.Fronts.{pushed-in, pushed-out}
 use Rattle.frames.proofs.lines.push.Statement.{statement}
 use Rattle.frames.proofs.lines.push.Tie as tie
@@ -17,16 +15,10 @@ same-length : tie.Need-same-length
 same-length c = search needs
 
 returns : tie.Need-returns
-returns c =
-    let s = c .before in
-    let a = s .args in
-    (length-set (a .front .now) (a .used) (a .byte), omega arith, pushed-in (a .front .now) (a .used) (a .byte) (c .if1 .taken) (s .pre .1))
+returns c = let a = c .before .args in pushed-in (a .front .now) (a .used) (a .byte) (omega arith)
 
 returns-2 : tie.Need-returns-2
-returns-2 c =
-    let s = c .before in
-    let a = s .args in
-    (refl, s .pre .0, pushed-out (a .front .now) (a .used) (a .byte) (s .pre .0) (c .if1 .left) (s .pre .1))
+returns-2 c = let a = c .before .args in pushed-out (a .front .now) (a .used) (a .byte) (omega arith)
 
 pub push-spec : {M : Type 1} → statement M
 push-spec = tie.close (tie.spec slice-write-front add-result same-length returns returns-2)

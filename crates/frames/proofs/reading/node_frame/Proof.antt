@@ -9,22 +9,22 @@ use Rattle.frames.proofs.reading.node_frame.Tie as tie
 returns : tie.Need-returns
 returns c = node-wrong (c .before .before .args .fields .now) (c .if1 .taken)
 
-sub-number : tie.Need-sub-number
-sub-number c = search needs
+sub-half : tie.Need-sub-half
+sub-half c = search needs
 
-part-number-start : tie.Need-part-number-start
-part-number-start c = search needs
+part-half-start : tie.Need-part-half-start
+part-half-start c = search needs
 
-part-number-end : tie.Need-part-number-end
-part-number-end c = search needs
+part-half-end : tie.Need-part-half-end
+part-half-end c = search needs
 
-number-requires : tie.Need-number-requires
-number-requires c κs = let s = c .before .before .before in (omega (arith, length-take 4 (drop 0 (s .args .fields .now))), hex-part (s .args .fields .now) 0 4 (s .pre) (omega arith))
+half-requires : tie.Need-half-requires
+half-requires c κs = let s = c .before .before .before in (omega (arith, length-take 4 (drop 0 (s .args .fields .now))), hex-part (s .args .fields .now) 0 4 (s .pre) (omega arith))
 
 returns-2 : tie.Need-returns-2
-returns-2 c = let s = c .before .before .before .before in rw (c .number .ensures) (node-right (s .args .fields .now) (c .before .before .if1 .left))
+returns-2 c = let s = c .before .before .before .before in rw (c .half .ensures) (node-right (s .args .fields .now) (c .before .before .if1 .left))
 
 pub node-frame-spec : {M : Type 1} → statement M
 node-frame-spec =
     tie.close
-    (tie.spec returns sub-number part-number-start part-number-end number-requires returns-2)
+    (tie.spec returns sub-half part-half-start part-half-end half-requires returns-2)

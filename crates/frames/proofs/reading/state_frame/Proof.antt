@@ -12,6 +12,30 @@ use Rattle.frames.proofs.reading.state_frame.Tie as tie
 returns : tie.Need-returns
 returns c = state-wrong (c .before .before .args .fields .now) (c .if1 .taken)
 
+sub-half : tie.Need-sub-half
+sub-half c = search needs
+
+part-half-start : tie.Need-part-half-start
+part-half-start c = search needs
+
+part-half-end : tie.Need-part-half-end
+part-half-end c = search needs
+
+half-requires : tie.Need-half-requires
+half-requires c κs = let s = c .before .before .before in (omega (arith, length-take 4 (drop 0 (s .args .fields .now))), hex-part (s .args .fields .now) 0 4 (s .pre) (omega arith))
+
+sub-half-2 : tie.Need-sub-half-2
+sub-half-2 c = search needs
+
+part-half-start-2 : tie.Need-part-half-start-2
+part-half-start-2 c = search needs
+
+part-half-end-2 : tie.Need-part-half-end-2
+part-half-end-2 c = search needs
+
+half-requires-2 : tie.Need-half-requires-2
+half-requires-2 c κs = let s = c .before .before .before .before .before in (omega (arith, length-take 4 (drop 4 (s .args .fields .now))), hex-part (s .args .fields .now) 4 4 (s .pre) (omega arith))
+
 sub-number : tie.Need-sub-number
 sub-number c = search needs
 
@@ -22,50 +46,26 @@ part-number-end : tie.Need-part-number-end
 part-number-end c = search needs
 
 number-requires : tie.Need-number-requires
-number-requires c κs = let s = c .before .before .before in (omega (arith, length-take 4 (drop 0 (s .args .fields .now))), hex-part (s .args .fields .now) 0 4 (s .pre) (omega arith))
-
-sub-number-2 : tie.Need-sub-number-2
-sub-number-2 c = search needs
-
-part-number-start-2 : tie.Need-part-number-start-2
-part-number-start-2 c = search needs
-
-part-number-end-2 : tie.Need-part-number-end-2
-part-number-end-2 c = search needs
-
-number-requires-2 : tie.Need-number-requires-2
-number-requires-2 c κs = let s = c .before .before .before .before .before in (omega (arith, length-take 4 (drop 4 (s .args .fields .now))), hex-part (s .args .fields .now) 4 4 (s .pre) (omega arith))
-
-sub-number-3 : tie.Need-sub-number-3
-sub-number-3 c = search needs
-
-part-number-start-3 : tie.Need-part-number-start-3
-part-number-start-3 c = search needs
-
-part-number-end-3 : tie.Need-part-number-end-3
-part-number-end-3 c = search needs
-
-number-requires-3 : tie.Need-number-requires-3
-number-requires-3 c κs = let s = c .before .before .before .before .before .before .before in (omega (arith, length-take 4 (drop 8 (s .args .fields .now))), hex-part (s .args .fields .now) 8 4 (s .pre) (omega arith))
+number-requires c κs = let s = c .before .before .before .before .before .before .before in (omega (arith, length-take 4 (drop 8 (s .args .fields .now))), hex-part (s .args .fields .now) 8 4 (s .pre) (omega arith))
 
 returns-2 : tie.Need-returns-2
-returns-2 c = let s = c .before .before .before .before .before .before .before .before in rw (c .before .before .before .before .number .ensures, c .before .before .number2 .ensures, c .number3 .ensures) (state-right (s .args .fields .now) (c .before .before .before .before .before .before .if1 .left))
+returns-2 c = let s = c .before .before .before .before .before .before .before .before in rw (c .before .before .before .before .half .ensures, c .before .before .half2 .ensures, c .number .ensures) (state-right (s .args .fields .now) (c .before .before .before .before .before .before .if1 .left))
 
 pub state-frame-spec : {M : Type 1} → statement M
 state-frame-spec =
     tie.close
     (tie.spec
     returns
+    sub-half
+    part-half-start
+    part-half-end
+    half-requires
+    sub-half-2
+    part-half-start-2
+    part-half-end-2
+    half-requires-2
     sub-number
     part-number-start
     part-number-end
     number-requires
-    sub-number-2
-    part-number-start-2
-    part-number-end-2
-    number-requires-2
-    sub-number-3
-    part-number-start-3
-    part-number-end-3
-    number-requires-3
     returns-2)
