@@ -7,4 +7,7 @@ pub mod Fronts
 pub mod Numbers
 pub mod Few
 pub mod Takes
+pub mod Kept
+pub mod Played
+pub mod Programs
 pub mod Samples

@@ -5,3 +5,4 @@ pub mod Lines
 pub mod Outputs
 pub mod Machine
 pub mod Moments
+pub mod Program

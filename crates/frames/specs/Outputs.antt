@@ -3,7 +3,7 @@ use Prim.Native.Nat.{ℕ, _-_}
 use mathlib.Core.Bool.{Bool, cond}
 use mathlib.Core.List.{List, [], _∷_, _++_}
 use lib.IntN.{ℤ, pos, negsuc}
-use lib.ListN.{length, take}
+use lib.ListN.{take}
 use Rattle.promises.specs.Answers as A
 use Rattle.frames.specs.Digits.{digits}
 
@@ -35,10 +35,6 @@ each f (x ∷ xs) = f x ++ each f xs
 -- "`82` walk order (2 digits a state)"
 unfoldable pub walked : List ℕ → List ℕ
 walked states = line 0x82 (each (digits 2) states)
-
--- a report with its changes
-unfoldable pub reported : Bool → ℕ → List ℤ → List ℕ
-reported fires trials list = accepted fires trials (length list) ++ each changed list
 
 -- an answer of the library with the list that it hands back, and an order of states
 abbrev pub answered : A.Outcome A.Summary → List ℤ → List ℕ

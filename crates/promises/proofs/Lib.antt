@@ -10,3 +10,4 @@ pub mod Changed
 pub mod Edits
 pub mod Steps
 pub mod Demands
+pub mod Told

@@ -125,11 +125,11 @@ unfolding load-verdicts given many table verdict below allBelow
 worked-loads = refl
 
 -- "Edges 2,048 and one more, absent: 13; one more, present: 12", whatever the edges are
-edge-present : (g : Graph) (a b : ℕ) → ltb a (nodes g) ≡ true → ltb b (nodes g) ≡ true → edge g a b ≡ true → verdict (graphRules insertion g a b) ≡ 12
+pub edge-present : (g : Graph) (a b : ℕ) → ltb a (nodes g) ≡ true → ltb b (nodes g) ≡ true → edge g a b ≡ true → verdict (graphRules insertion g a b) ≡ 12
 unfolding verdict
 edge-present g a b ha hb h = rw (ha, hb, h)
 
-edge-absent : (g : Graph) (a b : ℕ) → ltb a (nodes g) ≡ true → ltb b (nodes g) ≡ true → edge g a b ≡ false → leb maxEdges (length (g .edges)) ≡ true
+pub edge-absent : (g : Graph) (a b : ℕ) → ltb a (nodes g) ≡ true → ltb b (nodes g) ≡ true → edge g a b ≡ false → leb maxEdges (length (g .edges)) ≡ true
     → verdict (graphRules insertion g a b) ≡ 13
 unfolding verdict
 edge-absent g a b ha hb h full = rw (ha, hb, h, full)

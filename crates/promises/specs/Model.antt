@@ -1,12 +1,17 @@
 -- 01, "The book of demand 3": the model. It knows what the calls are given, and nothing of a session or an answer.
-use Prim.Native.Nat.{ℕ}
+use Prim.Native.Nat.{ℕ, _/_, _%_}
 use mathlib.Core.Bool.{cond}
 use mathlib.Core.List.{List, _∷_, map}
 use lib.Dec.{ltb, eqb}
-use Prim.Native.Nat.{_/_, _%_}
+use lib.IntN.{ℤ}
+use lib.ListN.{length}
 use Rattle.session.specs.Limits.{maxNodes, maxChanges}
 use Rattle.session.specs.Trigger.{Trigger, Graph}
+use Rattle.listing.specs.Changes.{changes}
+use Rattle.promises.specs.Standing.{stands, fires}
+use Rattle.promises.specs.Answers.{Summary}
 use Rattle.promises.specs.Rules.{Rule, rule, verdict, Given, givenTrigger, givenGraph, Kind, edited, graphRules}
+use Rattle.promises.specs.Promises.{loadList, loadTrials, trialCount}
 
 -- "It holds a trigger, samples and a set of edges."
 pub record Model : Type 0 where
@@ -44,3 +49,27 @@ freshly b = record {
   starts = map (λ e. e / maxNodes) (b .graph .edges);
   ends = map (λ e. e % maxNodes) (b .graph .edges);
 }
+
+-- an edit with a room of just the length that rule 3 asks for
+abbrev pub editing : Kind → ℕ → ℕ → Edit
+editing k a b = record { kind = k; start = a; end = b; room = maxChanges }
+
+-- what a load and an edit that break no rule report of the model: "whether the trigger fires, a trial count, and the change list"
+abbrev pub loadSummary : Given → Summary
+loadSummary x =
+    let t = givenTrigger x in
+    let g = givenGraph x in
+    record { fires = fires t g (stands t g); trials = loadTrials t g; changes = length (loadList t g) }
+
+abbrev pub editList : Model → Kind → ℕ → ℕ → List ℤ
+editList m k a b = let g' = edited k (m .graph) a b in changes (m .trigger) g' (stands (m .trigger) (m .graph)) (stands (m .trigger) g')
+
+abbrev pub editSummary : Model → Kind → ℕ → ℕ → Summary
+editSummary m k a b =
+    let t = m .trigger in
+    let g' = edited k (m .graph) a b in
+    record {
+      fires = fires t g' (stands t g');
+      trials = trialCount k t g' (stands t (m .graph)) (stands t g') a b;
+      changes = length (editList m k a b);
+    }

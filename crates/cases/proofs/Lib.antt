@@ -1,0 +1,4 @@
+-- The fact over all rows.
+pub mod Predicted
+pub mod Full
+pub mod Worked

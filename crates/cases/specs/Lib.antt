@@ -1,0 +1,2 @@
+-- The worked cases of 01.
+pub mod Cases

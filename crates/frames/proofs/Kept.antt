@@ -1,0 +1,132 @@
+-- The states and nodes read so far, with one more.
+use Prim.Native.Nat.{ℕ, suc, _+_, _-_, _<_, _≤_}
+use native.Mathlib.Numerals.{add-one}
+use native.Mathlib.Omega.{arith}
+use mathlib.Core.Path.{_≡_, refl, sym, _∙_, ap, ap₂, subst}
+use mathlib.Core.List.{List, [], _∷_, _++_}
+use lib.ListN.{length, getD, set, take, drop, length-set, length-drop}
+use lib.Seq.{getD-set-same, getD-set-other, take-set-le, drop-set-lt, drop-set-add, take-suc-set}
+use Rattle.session.specs.Limits.{maxStates, maxNodes, fixedSize}
+use Rattle.session.specs.Layout.{part}
+use Rattle.promises.specs.Rules.{given}
+use Rattle.frames.specs.Machine.{
+  Memory,
+  countsSize,
+  wordsSize,
+  linksIn,
+  valuesIn,
+  samplesIn,
+  statesRead,
+  nodesRead,
+  readSoFar,
+  stateKept,
+  nodeKept,
+}
+use Rattle.frames.specs.Moments.{withState, withNode}
+
+-- ---- a part of a list in which one place is written
+
+module _ (xs : List ℕ) (at n a : ℕ) where
+  -- the place after it
+  part-more : at + n < length xs → part (set xs (at + n) a) at (n + 1) ≡ part xs at n ++ (a ∷ [])
+  part-more l =
+      ap₂ take (add-one n) (drop-set-add at xs n a) ∙ take-suc-set (drop at xs) n a (omega (arith, length-drop at xs))
+
+  -- a place past it
+  part-past : (i : ℕ) → at + n ≤ i → part (set xs i a) at n ≡ part xs at n
+  part-past i l =
+      subst (λ (j : ℕ). part (set xs j a) at n ≡ part xs at n) (let e : at + (i - at) ≡ i = omega arith in e)
+      (ap (take n) (drop-set-add at xs (i - at) a) ∙ take-set-le n (drop at xs) (i - at) a (omega arith))
+
+  -- a place before it
+  part-ahead : (i : ℕ) → i < at → part (set xs i a) at n ≡ part xs at n
+  part-ahead i l = ap (take n) (drop-set-lt at xs i a l)
+
+-- ---- long enough, and as many as there may be
+
+pub record Ready (m : Memory) : Type 0 where
+  pub counts : countsSize ≤ length (m .counts)
+  pub words : wordsSize ≤ length (m .words)
+  pub session : fixedSize ≤ length (m .session)
+  pub few-states : statesRead m ≤ maxStates
+  pub few-nodes : nodesRead m ≤ maxNodes
+
+module _ (m : Memory) (r : Ready m) where
+  abbrev n : ℕ
+  n = statesRead m
+
+  abbrev k : ℕ
+  k = nodesRead m
+
+  module _ (mask value links : ℕ) (room : statesRead m < maxStates) where
+    abbrev linked : List ℕ
+    linked = set (m .counts) (linksIn + statesRead m) links
+
+    abbrev masked : List ℕ
+    masked = set (m .words) (statesRead m) mask
+
+    counted : getD (set linked 1 (n + 1)) 1 0 ≡ n + 1
+    counted = getD-set-same linked 1 (n + 1) 0 (omega (arith, length-set (m .counts) (linksIn + n) links, r .counts))
+
+    others : (i : ℕ) → (i ≡ 1 → ⊥) → i < 3 → getD (set linked 1 (n + 1)) i 0 ≡ getD (m .counts) i 0
+    others i ne l =
+        getD-set-other linked 1 i (n + 1) 0 ne ∙ getD-set-other (m .counts) (linksIn + n) i links 0 (λ e. absurd (omega (arith, e)))
+
+    pub state-moment : getD (stateKept m mask value links .counts) 0 0 ≡ getD (m .counts) 0 0
+    state-moment = others 0 (λ e. absurd (omega (arith, e))) (omega arith)
+
+    pub state-read : readSoFar (stateKept m mask value links) ≡ withState (readSoFar m) mask value links
+    unfolding readSoFar
+    state-read =
+        let masks : part (set masked (valuesIn + n) value) 0 (n + 1) ≡ part (m .words) 0 n ++ (mask ∷ []) =
+        part-past masked 0 (n + 1) value (valuesIn + n) (omega arith)
+        ∙ ap (λ (i : ℕ). part (set (m .words) i mask) 0 (n + 1)) (let e : n ≡ 0 + n = omega arith in e)
+        ∙ part-more (m .words) 0 n mask (omega (arith, r .words)) in
+        let values : part (set masked (valuesIn + n) value) valuesIn (n + 1) ≡ part (m .words) valuesIn n ++ (value ∷ []) =
+        part-more masked valuesIn n value (omega (arith, length-set (m .words) n mask, r .words))
+        ∙ ap (λ (ws : List ℕ). ws ++ (value ∷ [])) (part-ahead (m .words) valuesIn n mask n (omega arith)) in
+        let linkeds : part (set linked 1 (n + 1)) linksIn (n + 1) ≡ part (m .counts) linksIn n ++ (links ∷ []) =
+        part-ahead linked linksIn (n + 1) (n + 1) 1 (omega arith) ∙ part-more (m .counts) linksIn n links (omega (arith, r .counts)) in
+        let samples : part (set masked (valuesIn + n) value) samplesIn k ≡ part (m .words) samplesIn k =
+        part-ahead masked samplesIn k value (valuesIn + n) (omega arith) ∙ part-ahead (m .words) samplesIn k mask n (omega arith) in
+        rw (counted, others 2 (λ e. absurd (omega (arith, e))) (omega arith), masks, values, linkeds, samples)
+
+    pub state-ready : Ready (stateKept m mask value links)
+    state-ready = record {
+      counts = omega (arith, r .counts, length-set linked 1 (n + 1), length-set (m .counts) (linksIn + n) links);
+      words = omega (arith, r .words, length-set masked (valuesIn + n) value, length-set (m .words) n mask);
+      session = r .session;
+      few-states = omega (arith, counted);
+      few-nodes = omega (arith, others 2 (λ e. absurd (omega (arith, e))) (omega arith), r .few-nodes);
+    }
+
+  module _ (sample : ℕ) (room : nodesRead m < maxNodes) where
+    node-counted : getD (set (m .counts) 2 (k + 1)) 2 0 ≡ k + 1
+    node-counted = getD-set-same (m .counts) 2 (k + 1) 0 (omega (arith, r .counts))
+
+    node-others : (i : ℕ) → i < 2 → getD (set (m .counts) 2 (k + 1)) i 0 ≡ getD (m .counts) i 0
+    node-others i l = getD-set-other (m .counts) 2 i (k + 1) 0 (λ e. absurd (omega (arith, e)))
+
+    pub node-moment : getD (nodeKept m sample .counts) 0 0 ≡ getD (m .counts) 0 0
+    node-moment = node-others 0 (omega arith)
+
+    pub node-read : readSoFar (nodeKept m sample) ≡ withNode (readSoFar m) sample
+    unfolding readSoFar
+    node-read =
+        rw (
+          node-counted,
+          node-others 1 (omega arith),
+          part-past (m .words) 0 n sample (samplesIn + k) (omega (arith, r .few-states)),
+          part-past (m .words) valuesIn n sample (samplesIn + k) (omega (arith, r .few-states)),
+          part-ahead (m .counts) linksIn n (k + 1) 2 (omega arith),
+          part-more (m .words) samplesIn k sample (omega (arith, r .words)),
+        )
+
+    pub node-ready : Ready (nodeKept m sample)
+    node-ready = record {
+      counts = omega (arith, r .counts, length-set (m .counts) 2 (k + 1));
+      words = omega (arith, r .words, length-set (m .words) (samplesIn + k) sample);
+      session = r .session;
+      few-states = omega (arith, node-others 1 (omega arith), r .few-states);
+      few-nodes = omega (arith, node-counted);
+    }
