@@ -15,8 +15,8 @@ use Rattle.frames.specs.Digits.{digit, hexadecimal, numberFrom, number, 
 use Rattle.frames.proofs.Hex as hex
 use Rattle.frames.proofs.Written.{place-is, place-fits, letter-low, letter-high, digits-long}
 
-pub digit-letter : (d : ℕ) → d < 16 → digit (letter d) ≡ d
-digit-letter d h =
+pub digit-of-letter : (d : ℕ) → d < 16 → digit (letter d) ≡ d
+digit-of-letter d h =
     ⊎-elim
     (λ (l : d < 10). ap digit (sym (letter-low d l)) ∙ hex.digit-decimal (48 + d) (omega arith) (omega arith) ∙ omega arith)
     (λ (l : 10 ≤ d). ap digit (sym (letter-high d l)) ∙ hex.digit-letter (55 + d) (omega arith) (omega arith) ∙ omega arith)
@@ -26,7 +26,7 @@ digit-letter d h =
 digits-fit : (n x i : ℕ) → i < n → digit (getD (digits n x) i 0) < 16
 unfolding digits
 digits-fit zero x i l = absurd (omega arith)
-digits-fit (suc n) x zero l = rw (digit-letter (place x n) (place-fits x n)) (place-fits x n)
+digits-fit (suc n) x zero l = rw (digit-of-letter (place x n) (place-fits x n)) (place-fits x n)
 digits-fit (suc n) x (suc i) l = digits-fit n x i (omega arith)
 
 pub digits-hexadecimal : (n x : ℕ) → hexadecimal (digits n x) ≡ true
@@ -56,7 +56,7 @@ pub number-after : (n k x : ℕ) → numberFrom k (digits n x) ≡ k * 16 ^ n + 
 unfolding numberFrom digits
 number-after zero k x = omega arith
 number-after (suc n) k x =
-    ap (λ (d : ℕ). numberFrom (k * 16 + d) (digits n x)) (digit-letter (place x n) (place-fits x n))
+    ap (λ (d : ℕ). numberFrom (k * 16 + d) (digits n x)) (digit-of-letter (place x n) (place-fits x n))
     ∙ number-after n (k * 16 + place x n) x
     ∙ ap (λ (i : ℕ). i + x % 16 ^ n) (add-mul (k * 16) (place x n) (16 ^ n) ∙ ap (λ (i : ℕ). i + place x n * 16 ^ n) (mul-assoc k 16 (16 ^ n)))
     ∙ add-assoc (k * (16 * 16 ^ n)) (place x n * 16 ^ n) (x % 16 ^ n)

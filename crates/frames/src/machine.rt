@@ -36,6 +36,9 @@ pub const WORDS_SIZE: usize = 544;
 
 pub const OUTPUT_SIZE: usize = 90125;
 
+// What an accepted state or node prints.
+pub const NOTHING: usize = 0;
+
 // How many bytes of output a line gave, or the rule that the lent memory breaks.
 pub enum Taken {
     Written(usize),
@@ -70,7 +73,7 @@ pub fn state_line(counts: &mut [u32], words: &mut [u16], state: State, out: &mut
     counts[1] = (n + 1) as u32;
     words[n] = state.mask;
     words[VALUES_IN + n] = state.value;
-    0
+    NOTHING
 }
 
 // Keeps a node.
@@ -84,7 +87,7 @@ pub fn node_line(counts: &mut [u32], words: &mut [u16], sample: u16, out: &mut [
     }
     counts[2] = (n + 1) as u32;
     words[SAMPLES_IN + n] = sample;
-    0
+    NOTHING
 }
 
 // The moment after a run.

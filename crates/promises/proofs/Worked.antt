@@ -1,11 +1,11 @@
--- Worked cases, computed from the definitions alone: the session of 01, a ring closed by one edge, a pair tried and dropped,
--- a ring broken, and rules that are broken together.
+-- Cases computed from the definitions alone, beside those of the crate cases: a ring of three closed by one edge, a pair tried and dropped, and
+-- rules that are broken together.
 use Prim.Native.Nat.{ℕ, zero, suc}
 use mathlib.Core.Path.{_≡_, refl}
 use mathlib.Core.Bool.{Bool, true, false}
 use mathlib.Core.List.{List, [], _∷_, map}
 use lib.Dec.{ltb, leb}
-use lib.IntN.{ℤ, pos, negsuc}
+use lib.IntN.{ℤ, pos}
 use lib.ListN.{length}
 use Rattle.simulation.specs.Sets.{anyBelow, allBelow, count, shrunk, down, grown, up}
 use Rattle.simulation.specs.System.{greatest, supported, closure, reaches}
@@ -62,14 +62,9 @@ two-nodes = graph (1 ∷ 2 ∷ [])
 
 rows : List Asked
 rows =
-    load two (two-nodes [])
-    ∷ edit insertion two (two-nodes []) 0 1
-    ∷ edit insertion two (two-nodes (edgeNumber 0 1 ∷ [])) 1 0
-    ∷ edit insertion two (two-nodes (edgeNumber 0 1 ∷ edgeNumber 1 0 ∷ [])) 1 0
-    ∷ edit deletion two (two-nodes (edgeNumber 0 1 ∷ edgeNumber 1 0 ∷ [])) 0 1
+    load self (graph (0 ∷ 0 ∷ []) [])
     ∷ edit insertion self (graph (0 ∷ 0 ∷ 0 ∷ []) (edgeNumber 0 1 ∷ edgeNumber 1 2 ∷ [])) 2 0
     ∷ edit insertion self (graph (0 ∷ 0 ∷ []) []) 0 1
-    ∷ edit deletion self (graph (0 ∷ 0 ∷ []) (edgeNumber 0 1 ∷ edgeNumber 1 0 ∷ [])) 0 1
     ∷ edit deletion self (graph (0 ∷ 0 ∷ []) (edgeNumber 0 1 ∷ edgeNumber 1 0 ∷ [])) 1 1
     ∷ edit insertion self (graph (0 ∷ 0 ∷ []) []) 0 2
     ∷ []
@@ -77,24 +72,19 @@ rows =
 told : List Told
 told =
     report false 2 []
-    ∷ report false 1 []
-    ∷ report true 2 (pos 1 ∷ pos 66 ∷ [])
-    ∷ refuse 12
-    ∷ report false 2 (negsuc 0 ∷ negsuc 65 ∷ [])
     ∷ report true 3 (pos 1 ∷ pos 65 ∷ pos 129 ∷ [])
     ∷ report false 1 []
-    ∷ report false 2 (negsuc 0 ∷ negsuc 64 ∷ [])
     ∷ refuse 14
     ∷ refuse 11
     ∷ []
 
 worked : map answer rows ≡ told
-unfolding answer judge rows told two self graph two-nodes verdict insert remove joins elem edge linked admits agrees fires stands best
+unfolding answer judge rows told self graph verdict insert remove joins elem edge linked admits agrees fires stands best
     greatest supported shrunk down anyBelow allBelow count changes joinTo trialSet closure grown up reaches
 worked = refl
 
-worked-orders : map order (two ∷ self ∷ three ∷ []) ≡ ((1 ∷ 2 ∷ []) ∷ (1 ∷ []) ∷ (1 ∷ 3 ∷ 2 ∷ []) ∷ [])
-unfolding two self three order visit fold elem linked
+worked-orders : map order (self ∷ three ∷ []) ≡ ((1 ∷ []) ∷ (1 ∷ 3 ∷ 2 ∷ []) ∷ [])
+unfolding self three order visit fold elem linked
 worked-orders = refl
 
 -- ---- the sequence of the rules: loads and insertions that break two rules each meet the first of them
