@@ -14,6 +14,7 @@ use Rattle.simulation.proofs.Sets.{split, clash, refuted, implies-take, all-tak
 use Rattle.simulation.proofs.System.{swept}
 use Rattle.simulation.proofs.Pattern.{pair-whole}
 use Rattle.simulation.proofs.Terms.{joined}
+use Rattle.bits.proofs.Counts.{count-none}
 use Rattle.session.specs.Trigger.{Trigger, Graph, Marks, states, nodes, edge, pattern}
 use Rattle.session.specs.Layout.{triggerOf, graphOf, marksOf, inLayout}
 use Rattle.session.proofs.Decoded.{Inside, LayoutFacts, layout-facts}
@@ -23,13 +24,13 @@ use Rattle.promises.specs.Promises.{ceased}
 use Rattle.promises.proofs.Stands.{stands-inside}
 use Rattle.promises.proofs.Changed.{deleted-stands, deleted-first}
 use Rattle.editing.specs.Steps.{Holds, markedPairs, backed, steadyAt, Ceased}
-use Rattle.editing.proofs.Pairs.{count-none, marks-below, marks-same, holds-marks}
+use Rattle.editing.proofs.Pairs.{marks-below, marks-same, holds-marks}
 
 -- none cease where the marks stay
 pub none-ceased : (t : Trigger) (g : Graph) (m : Marks) → 0 ≡ ceased t g m m
 none-ceased t g m =
     sym (count-none (nodes g * states t) (minus (pairsOf t g m) (pairsOf t g m))
-    (λ p. refuted (minus (pairsOf t g m) (pairsOf t g m) p)
+    (λ p l. refuted (minus (pairsOf t g m) (pairsOf t g m) p)
     (λ e. clash (and-l (pairsOf t g m p) (not (pairsOf t g m p)) e) (not-take (pairsOf t g m p) (and-r (pairsOf t g m p) (not (pairsOf t g m p)) e)))))
 
 -- the session xs holds the graph after the deletion of (a, b), and the marks of the graph with the edges es before it

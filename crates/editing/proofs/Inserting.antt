@@ -15,6 +15,7 @@ use Rattle.simulation.proofs.System.{refined-start, refined-inside, closure-ins
 use Rattle.simulation.proofs.Loops.{count-same}
 use Rattle.simulation.proofs.Pattern.{paired-pair}
 use Rattle.simulation.proofs.Terms.{joined}
+use Rattle.bits.proofs.Counts.{count-none}
 use Rattle.session.specs.Trigger.{Trigger, Graph, Marks, states, nodes, linked, edge, admits, pattern}
 use Rattle.session.specs.Layout.{triggerOf, graphOf, marksOf, validMarks, inLayout}
 use Rattle.session.proofs.Valid.{marks-facts, marks-valid}
@@ -24,7 +25,7 @@ use Rattle.promises.specs.Standing.{stands, size, pairsOf, fresh, trialSet}
 use Rattle.promises.proofs.Stands.{stands-inside}
 use Rattle.promises.proofs.Changed.{inserted-stands}
 use Rattle.editing.specs.Steps.{Holds, markedPairs, freshPairs, seedsOf}
-use Rattle.editing.proofs.Pairs.{count-none, marks-below, marks-same, holds-set}
+use Rattle.editing.proofs.Pairs.{marks-below, marks-same, holds-set}
 
 module _ (xs : List ℕ) (h : inLayout xs ≡ true) (a b : ℕ) where
   abbrev t : Trigger
@@ -76,7 +77,7 @@ module _ (xs : List ℕ) (h : inLayout xs ≡ true) (a b : ℕ) where
             (and-make (subst (λ (v : ℕ). fresh t g m (q % n) v ≡ true) at-a d) (and-r (eqb (q / n) a) linking e))
 
     pub none-tried : 0 ≡ size (triggerOf xs) (graphOf xs) (trialSet (triggerOf xs) (graphOf xs) (marksOf xs) a b)
-    none-tried = sym (count-none (nodes g * n) trials no-trial)
+    none-tried = sym (count-none (nodes g * n) trials (λ p l. no-trial p))
 
     trial-none : trialSet (triggerOf xs) (graphOf xs) (marksOf xs) a b ≡ none
     trial-none = fun-ext no-trial

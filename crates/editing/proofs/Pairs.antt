@@ -1,5 +1,5 @@
 -- Tables, sets of pairs and marks.
-use Prim.Native.Nat.{ℕ, zero, suc, _+_, _*_, _/_, _%_, _<_}
+use Prim.Native.Nat.{ℕ, _+_, _*_, _/_, _%_, _<_}
 use native.Mathlib.Nat.{div-add-mod', mod-lt}
 use native.Mathlib.Omega.{arith}
 use mathlib.Core.Path.{_≡_, refl, sym, _∙_, ap, fun-ext}
@@ -7,7 +7,7 @@ use mathlib.Core.Logic.{⊎-elim}
 use mathlib.Core.Bool.{Bool, true, false}
 use mathlib.Core.List.{List}
 use lib.ListN.{getD}
-use Rattle.simulation.specs.Sets.{Set, In, none, count}
+use Rattle.simulation.specs.Sets.{Set, In, none}
 use Rattle.simulation.specs.Pattern.{pair}
 use Rattle.simulation.proofs.Sets.{same, refuted}
 use Rattle.simulation.proofs.Search.{lt-or-le}
@@ -20,12 +20,6 @@ use Rattle.session.proofs.Decoded.{Inside}
 use Rattle.refinement.specs.Tables.{marked}
 use Rattle.promises.specs.Standing.{pairsOf}
 use Rattle.editing.specs.Steps.{Holds}
-
--- a set without members has none to count
-pub count-none : (n : ℕ) (X : Set) → ((p : ℕ) → X p ≡ false) → count n X ≡ 0
-unfolding count
-count-none zero X h = refl
-count-none (suc n) X h = rw (h n, count-none n X h)
 
 -- an empty table has no pair
 pub no-pairs : (t : Trigger) (g : Graph) (ss : List ℕ) → ((v : ℕ) → getD ss v 0 ≡ 0) → pairsOf t g (marked ss) ≡ none

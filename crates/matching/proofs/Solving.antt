@@ -24,6 +24,7 @@ use Rattle.refinement.specs.Tables.{marked, waits, Settled, Admitted}
 use Rattle.promises.specs.Standing.{stands, size, pairsOf}
 use Rattle.promises.proofs.Stands.{stands-inside}
 use Rattle.reports.proofs.Systems.{settled-refined}
+use Rattle.editing.proofs.Pairs.{no-pairs}
 use Rattle.matching.specs.Solved.{Solved}
 
 module _ (t : Trigger) (g : Graph) (tf : TriggerFacts t) (gf : GraphFacts g) where
@@ -61,7 +62,7 @@ module _ (t : Trigger) (g : Graph) (tf : TriggerFacts t) (gf : GraphFacts g) whe
 
       -- no pair is settled before
       no-settled : paired (pattern t g) (marked ss) ≡ none
-      no-settled = fun-ext (λ p. ap (λ (w : ℕ). members w (p % n)) (empty (p / n)) ∙ zero-members (p % n))
+      no-settled = no-pairs t g ss empty
 
       -- what is left is refined from all that is admitted
       left : (p : ℕ) → p < nodes g * states t → T ts p ≡ refined s none (T ts₀) p
