@@ -1,28 +1,22 @@
 -- Answers are short: a change list has a place for each pair at most, an order has each state once.
-use Prim.Native.Nat.{ℕ, _*_, _≤_}
-use native.Mathlib.Nat.{mul-le-mul-left}
+use Prim.Native.Nat.{ℕ, _≤_}
 use native.Mathlib.Omega.{arith}
-use mathlib.Core.Path.{_≡_, refl, sym, _∙_, ap}
+use mathlib.Core.Path.{_≡_, sym, _∙_, ap}
 use mathlib.Core.Logic.{⊎-elim}
 use mathlib.Core.List.{List, []}
 use lib.IntN.{ℤ}
 use lib.ListN.{length, drop}
 use Rattle.session.specs.Limits.{maxStates, maxNodes, maxChanges}
 use Rattle.session.specs.Trigger.{Trigger, Graph, Marks, states, nodes}
-use Rattle.session.specs.Layout.{triggerOf, graphOf, marksOf, inLayout}
-use Rattle.simulation.specs.Sets.{Set}
-use Rattle.simulation.proofs.Sets.{count-le}
-use Rattle.session.proofs.Valid.{TriggerFacts, GraphFacts}
+use Rattle.session.specs.Layout.{triggerOf, graphOf, marksOf}
 use Rattle.session.proofs.Decoded.{layout-facts}
 use Rattle.listing.specs.Changes.{changes}
-use Rattle.listing.proofs.Lists.{changes-short}
 use Rattle.promises.specs.declared.Answer.{Answer}
 use Rattle.promises.specs.declared.StateOrder.{StateOrder}
 use Rattle.promises.specs.Answers.{accepted, outcome, told, toldOrder, changesTold, handedBack}
-use Rattle.promises.specs.Standing.{size}
-use Rattle.promises.specs.Rules.{Kind, insertion, deletion, Given, givenTrigger, givenGraph, edited, verdict, loadRules, editRules, questionRules}
+use Rattle.promises.specs.Rules.{Kind, Given, givenTrigger, givenGraph, edited, verdict, loadRules, editRules, questionRules}
 use Rattle.promises.specs.Promises.{Reported, Loaded, Edited, Ordered}
-use Rattle.promises.specs.Model.{Model, loadSummary, editSummary}
+use Rattle.promises.proofs.Counted.{list-few}
 use Rattle.promises.proofs.Handed.{handed-back, handed-none}
 use Rattle.promises.proofs.Verdicts.{accepts-or}
 use Rattle.promises.proofs.Loads.{load-trigger, load-graph}
@@ -30,10 +24,6 @@ use Rattle.promises.proofs.Edits.{edited-facts}
 use Rattle.promises.proofs.Demands.{outcome-refused}
 use Rattle.editing.proofs.Ruled.{edit-passed}
 use Rattle.matching.proofs.Asked.{question-passed}
-
-list-few : (t : Trigger) (g : Graph) (before after : Marks) → states t ≤ maxStates → nodes g ≤ maxNodes → length (changes t g before after) ≤ maxChanges
-list-few t g before after few-states few-nodes =
-    omega (arith, changes-short t g before after, mul-le-mul-left (nodes g) few-states, few-nodes)
 
 reported-few : (t : Trigger) (g : Graph) (m before after : Marks) (trials : ℕ) (c c' : List ℤ) (r : Answer) → states t ≤ maxStates → nodes g ≤ maxNodes
     → Reported t g m trials (changes t g before after) c r c' → length (handedBack c' r) ≤ maxChanges
@@ -81,20 +71,3 @@ ordered-few s r n p says =
     let z : _≡_ {A = ℕ} 0 1 = cc (sym says, p .answer ∙ outcome-refused v st bad) in
     absurd (omega arith))
     (accepts-or v)
-
--- ---- four digits are enough for the counts of a report
-
-size-few : (t : Trigger) (g : Graph) (X : Set) → states t ≤ maxStates → nodes g ≤ maxNodes → size t g X ≤ maxChanges
-size-few t g X few-states few-nodes =
-    omega (arith, count-le (nodes g * states t) X, mul-le-mul-left (nodes g) few-states, few-nodes)
-
-pub load-counts : (x : Given) → TriggerFacts (givenTrigger x) → GraphFacts (givenGraph x)
-    → (loadSummary x .trials ≤ maxChanges) × (loadSummary x .changes ≤ maxChanges)
-load-counts x tf gf = (size-few (givenTrigger x) (givenGraph x) _ (tf .few) (gf .few), list-few (givenTrigger x) (givenGraph x) _ _ (tf .few) (gf .few))
-
-pub edit-counts : (m : Model) (k : Kind) (a b : ℕ) → TriggerFacts (m .trigger) → GraphFacts (edited k (m .graph) a b)
-    → (editSummary m k a b .trials ≤ maxChanges) × (editSummary m k a b .changes ≤ maxChanges)
-edit-counts m insertion a b tf gf =
-    (size-few (m .trigger) (edited insertion (m .graph) a b) _ (tf .few) (gf .few), list-few (m .trigger) (edited insertion (m .graph) a b) _ _ (tf .few) (gf .few))
-edit-counts m deletion a b tf gf =
-    (size-few (m .trigger) (edited deletion (m .graph) a b) _ (tf .few) (gf .few), list-few (m .trigger) (edited deletion (m .graph) a b) _ _ (tf .few) (gf .few))

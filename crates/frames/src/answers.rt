@@ -4,15 +4,15 @@ ghost use mathlib.Core.List.{[], _∷_, _++_};
 ghost use Prim.Native.Nat.{ℕ, _+_, _*_, _<_, _≤_};
 ghost use lib.ListN.{length};
 ghost use Rattle.listing.specs.Placed.{Placed};
-ghost use Rattle.promises.specs.Answers.{told, firing, handedBack};
+ghost use Rattle.promises.specs.Answers.{told, handedBack};
 ghost use Rattle.frames.specs.Digits as d;
 ghost use Rattle.frames.specs.Outputs as o;
 use super::writing::put_digits;
 use listing::changes::begins;
 use listing::changes::size_of;
 use matching::Answer;
-use matching::Firing;
 use matching::changed_part;
+use reports::answers::says;
 
 // Writes one byte.
 pub fn put_byte(out: &mut [u8], at: usize, byte: u8) -> usize
@@ -119,16 +119,6 @@ pub fn put_order(out: &mut [u8], at: usize, states: &[u8]) -> usize
     let kind = put_digits(out, at, 2, 130);
     let next = put_states(out, kind, states);
     put_byte(out, next, 10)
-}
-
-// Whether a report says that the trigger fires.
-pub fn says(answer: Firing) -> bool
-    ensures { λ r. ⌜ r ≡ firing answer ⌝ }
-{
-    match answer {
-        Firing::Fires => true,
-        Firing::Silent => false,
-    }
 }
 
 // Writes the lines of an answer with the changes of a room.

@@ -11,3 +11,4 @@ pub mod Edits
 pub mod Steps
 pub mod Demands
 pub mod Told
+pub mod Counted

@@ -89,3 +89,17 @@ verdict-lacks n (r ∷ rs) some h e = by (r .broken) refl (verdict-lacks n rs so
     by : (b : Bool) → r .broken ≡ b → (verdict rs ≡ n → ⊥) → ⊥
     by true q more = h .0 (rw q at e)
     by false q more = more (rw q at e)
+
+-- the verdict is below a number that all rows are below
+abbrev pub Below : ℕ → List Rule → Type 0
+Below n [] = Unit {0}
+Below n (r ∷ rs) = (r .number < n) × Below n rs
+
+pub verdict-below : (n : ℕ) (rs : List Rule) → 0 < n → Below n rs → verdict rs < n
+unfolding verdict
+verdict-below n [] some h = some
+verdict-below n (r ∷ rs) some h = by (r .broken) refl (verdict-below n rs some (h .1))
+  where
+    by : (b : Bool) → r .broken ≡ b → verdict rs < n → verdict (r ∷ rs) < n
+    by true q more = rw q (h .0)
+    by false q more = rw q more

@@ -1,7 +1,18 @@
-// What an answer tells of the change list, and the list handed back.
+// What an answer tells: whether the trigger fires, how many changes, and the list handed back.
 ghost use mathlib.Core.Path.{_≡_};
-ghost use Rattle.promises.specs.Answers.{told, changesTold, handedBack};
+ghost use Rattle.promises.specs.Answers.{firing, told, changesTold, handedBack};
 use promises::Answer;
+use promises::Firing;
+
+// Whether a report says that the trigger fires.
+pub fn says(answer: Firing) -> bool
+    ensures { λ r. ⌜ r ≡ firing answer ⌝ }
+{
+    match answer {
+        Firing::Fires => true,
+        Firing::Silent => false,
+    }
+}
 
 // How many changes an answer tells of.
 pub fn changes_in(answer: Answer) -> u32

@@ -1,0 +1,4 @@
+-- The laws of the packing.
+pub mod Unpacked
+pub mod Orders
+pub mod Fitted

@@ -1,0 +1,2 @@
+-- How an answer is one number, and what the calls from C promise of it.
+pub mod Packed

@@ -1,0 +1,157 @@
+/* The session of the engine's description, played through the C interface. Standard output is compared with session.expected; that each call leaves alone
+   what it is to leave alone is tested here, and a breach is written as a line of its own. */
+#include "trigger_engine.h"
+
+#include <stdio.h>
+#include <string.h>
+
+/* Memory past what is asked for, filled with a pattern that no call may touch. */
+enum { MORE = 5, PATTERN = 0x5A };
+
+static uint32_t session[TRIGGER_SESSION_WORDS + MORE];
+static int32_t changes[TRIGGER_CHANGE_PLACES + MORE];
+static uint8_t states[TRIGGER_ORDER_PLACES + MORE];
+
+static const size_t words = sizeof session / sizeof session[0];
+static const size_t places = sizeof changes / sizeof changes[0];
+
+static uint32_t session_before[TRIGGER_SESSION_WORDS + MORE];
+static int32_t changes_before[TRIGGER_CHANGE_PLACES + MORE];
+static uint8_t states_before[TRIGGER_ORDER_PLACES + MORE];
+
+static void begin(void)
+{
+    memset(changes, PATTERN, sizeof changes);
+    memset(states, PATTERN, sizeof states);
+    memcpy(session_before, session, sizeof session);
+    memcpy(changes_before, changes, sizeof changes);
+    memcpy(states_before, states, sizeof states);
+}
+
+static void expect(int holds, const char *breach)
+{
+    if (!holds) {
+        printf("  BREACH: %s\n", breach);
+    }
+}
+
+/* A refusal leaves every byte, and no call writes past what it may write. */
+static void end(trigger_answer answer, size_t filled, int ordered)
+{
+    if (!trigger_answer_accepted(answer)) {
+        expect(answer <= 0xFF, "a refusal tells more than its rule");
+        expect(memcmp(session, session_before, sizeof session) == 0, "a refusal wrote to the session");
+        expect(memcmp(states, states_before, sizeof states) == 0, "a refusal wrote to the states");
+        filled = 0;
+        ordered = 0;
+    }
+    expect(memcmp(session + TRIGGER_SESSION_WORDS, session_before + TRIGGER_SESSION_WORDS, MORE * sizeof session[0]) == 0,
+           "words past the session are written");
+    expect(memcmp(changes + filled, changes_before + filled, (places - filled) * sizeof changes[0]) == 0,
+           "places past the changes are written");
+    const size_t kept = ordered ? TRIGGER_ORDER_PLACES : 0;
+    expect(memcmp(states + kept, states_before + kept, sizeof states - kept) == 0, "places past the order are written");
+}
+
+static void report(const char *call, trigger_answer answer)
+{
+    const uint32_t count = trigger_answer_changes(answer);
+    if (!trigger_answer_accepted(answer)) {
+        printf("%s: refused %u\n", call, trigger_answer_rule(answer));
+    } else {
+        printf("%s: accepted, %s, trials %u, changes %u", call, trigger_answer_yes(answer) ? "fires" : "silent",
+               (unsigned)trigger_answer_trials(answer), (unsigned)count);
+        for (uint32_t i = 0; i < count; i++) {
+            const int32_t change = changes[i];
+            printf("%s%c%u", i == 0 ? ": " : " ", trigger_change_begins(change) ? '+' : '-', (unsigned)trigger_change_size(change));
+            expect(trigger_change_size(change) == trigger_change_node(change) * 64 + trigger_change_state(change), "a change falls apart");
+        }
+        printf("\n");
+    }
+    end(answer, count, 0);
+}
+
+static void insert(const char *call, uint32_t start, uint32_t end_node, size_t room)
+{
+    begin();
+    report(call, trigger_insert(session, words, start, end_node, changes, room));
+}
+
+static void delete_edge(const char *call, uint32_t start, uint32_t end_node)
+{
+    begin();
+    report(call, trigger_delete(session, words, start, end_node, changes, places));
+}
+
+static void question(const char *call, trigger_answer answer)
+{
+    if (!trigger_answer_accepted(answer)) {
+        printf("%s: refused %u\n", call, trigger_answer_rule(answer));
+    } else {
+        printf("%s: %s\n", call, trigger_answer_yes(answer) ? "yes" : "no");
+    }
+    expect(memcmp(session, session_before, sizeof session) == 0, "a question wrote to the session");
+    end(answer, 0, 0);
+}
+
+static void order(const char *call, size_t room)
+{
+    begin();
+    const trigger_answer answer = trigger_order(session, words, states, room);
+    const uint32_t count = trigger_answer_states(answer);
+    if (!trigger_answer_accepted(answer)) {
+        printf("%s: refused %u\n", call, trigger_answer_rule(answer));
+    } else {
+        printf("%s: %u states:", call, (unsigned)count);
+        for (uint32_t i = 0; i < count; i++) {
+            printf(" %u", (unsigned)states[i]);
+        }
+        printf("\n");
+        for (uint32_t i = count; i < TRIGGER_ORDER_PLACES; i++) {
+            expect(states[i] == 0, "a place after the states is not zero");
+        }
+    }
+    end(answer, 0, 1);
+}
+
+int main(void)
+{
+    const uint16_t masks[] = {0xFFFF, 0xFFFF};
+    const uint16_t values[] = {0x0001, 0x0002};
+    const uint32_t links[] = {0x0002, 0x0001};
+    const uint16_t samples[] = {0x0001, 0x0002};
+    const uint32_t no_edges[] = {0};
+
+    memset(session, PATTERN, sizeof session);
+    printf("words %zu, places %zu\n", trigger_session_words(), trigger_change_places());
+    expect(trigger_session_words() == TRIGGER_SESSION_WORDS, "the header has another number of words");
+    expect(trigger_change_places() == TRIGGER_CHANGE_PLACES, "the header has another number of places");
+
+    begin();
+    question("fires before the load", trigger_fires(session, words));
+
+    begin();
+    report("load", trigger_load(session, words, masks, 2, values, 2, links, 2, samples, 2, no_edges, 0, no_edges, 0, changes, places));
+
+    insert("insert 0 1", 0, 1, places);
+    insert("insert 1 0", 1, 0, places);
+
+    begin();
+    question("fires", trigger_fires(session, words));
+    question("state 1 at node 0", trigger_matches(session, words, 1, 0));
+    question("state 2 at node 0", trigger_matches(session, words, 2, 0));
+    question("state 3 at node 0", trigger_matches(session, words, 3, 0));
+
+    insert("insert 1 0", 1, 0, places);
+    insert("insert 2 0", 2, 0, places);
+    insert("insert into 8191 places", 0, 0, TRIGGER_CHANGE_PLACES - 1);
+    delete_edge("delete 0 1", 0, 1);
+    delete_edge("delete 0 1", 0, 1);
+
+    begin();
+    question("fires", trigger_fires(session, words));
+
+    order("order into 15 places", TRIGGER_ORDER_PLACES - 1);
+    order("order", sizeof states);
+    return 0;
+}
