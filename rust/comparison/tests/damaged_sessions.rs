@@ -1,0 +1,294 @@
+//! Sessions that are too short, or have words that nobody but the engine should have written.
+//!
+//! Where a damaged session is not in layout, every call is refused with 10. Where it is, it holds another trigger,
+//! graph or marks: then the questions read the marks held, and an edit does what is fixed of it for marks that may not be
+//! those of their graph.
+
+use comparison::random::seed;
+use comparison::subject::{accepted, answered, refused};
+use comparison::{Case, Engine, Random, Subject, Twin};
+use reference::changes::changes;
+use reference::layout::{held, image};
+use reference::rules::{ROOM, SESSION, delete_rules, insert_rules, question_rules};
+use reference::standing::{admitted, fires, standing};
+use reference::trials::trial_set;
+use reference::walk::walk_order;
+use reference::{Graph, Relation, Report, Trigger};
+use trigger_engine::lent::Answer;
+
+type Held = (Trigger, Graph, Relation);
+
+/// Makes every call on a session and compares each with what its layout wants. Gives whether it was in layout.
+fn all_calls<S: Subject>(subject: S, session: &[u32], random: &mut Random, label: &str) -> bool {
+    let held = held(session);
+    let nodes = session[1].min(600);
+    let any = |random: &mut Random| (random.below(nodes as usize + 1)) as u32;
+    let (state, node) = (random.below(18) as u32, any(random));
+
+    let answer = subject.matches(session, state, node);
+    let wanted = match &held {
+        Some((trigger, graph, marks)) => {
+            answered(question_rules(trigger, graph, state, node).map(|()| marks.has(state as usize - 1, node as usize)))
+        }
+        None => refused(10),
+    };
+    assert_eq!(answer, wanted, "{label}: matches({state}, {node})");
+
+    let answer = subject.fires(session);
+    let wanted = match &held {
+        Some((trigger, graph, marks)) => answered(Ok(fires(trigger, graph, marks))),
+        None => refused(10),
+    };
+    assert_eq!(answer, wanted, "{label}: fires");
+
+    let mut states = [0xEE; 16];
+    let answer = subject.order(session, &mut states);
+    match &held {
+        Some((trigger, _, _)) => {
+            let order = walk_order(trigger);
+            assert_eq!(answer, Answer((order.len() as u64) << 40), "{label}: order");
+            assert_eq!(states[..order.len()], order, "{label}: order");
+        }
+        None => assert_eq!((answer, states), (refused(10), [0xEE; 16]), "{label}: order"),
+    }
+
+    for inserts in [true, false] {
+        let mut edge = (any(random), any(random));
+        if let Some((_, graph, _)) = &held
+            && random.once_in(2)
+        {
+            let edges: Vec<(usize, usize)> = graph.edges().collect();
+            if !edges.is_empty() {
+                let (start, end) = *random.pick(&edges);
+                edge = (start as u32, end as u32);
+            }
+        }
+        edit(subject, session, held.as_ref(), inserts, edge, label);
+    }
+    held.is_some()
+}
+
+/// Makes an edit on a copy of a session.
+fn edit<S: Subject>(
+    subject: S,
+    before: &[u32],
+    held: Option<&Held>,
+    inserts: bool,
+    (start, end): (u32, u32),
+    label: &str,
+) {
+    let label = format!("{label}: edit {inserts} ({start}, {end})");
+    let mut session = before.to_vec();
+    let mut room: Vec<i32> = vec![0x5EAF; ROOM];
+    let answer = if inserts {
+        subject.insert(&mut session, start, end, &mut room)
+    } else {
+        subject.delete(&mut session, start, end, &mut room)
+    };
+    let Some((trigger, graph, marks)) = held else {
+        assert_eq!(answer, refused(10), "{label}");
+        assert!(session == before && room.iter().all(|place| *place == 0x5EAF), "{label}: written");
+        return;
+    };
+    let rules = if inserts { insert_rules } else { delete_rules };
+    if let Err(rule) = rules(graph, ROOM, start, end) {
+        assert_eq!(answer, refused(rule), "{label}");
+        assert!(session == before && room.iter().all(|place| *place == 0x5EAF), "{label}: written");
+        return;
+    }
+
+    let edge = (start as usize, end as usize);
+    let mut after = graph.clone();
+    if inserts {
+        after.ends[edge.0].insert(edge.1);
+    } else {
+        after.ends[edge.0].remove(&edge.1);
+    }
+    let left = left_marks(trigger, &session);
+    assert_eq!(session[..SESSION], image(trigger, &after, &left), "{label}: trigger, samples or edges");
+    assert_eq!(session[SESSION..], before[SESSION..], "{label}: past the fixed size");
+    let list = changes(marks, &left);
+    assert_eq!(room[..list.len()], list, "{label}: changes");
+    assert!(room[list.len()..].iter().all(|place| *place == 0x5EAF), "{label}: past the list");
+    assert!(list.iter().all(|change| (*change > 0) == inserts), "{label}: an insertion only sets, a deletion clears");
+    let admitted = admitted(trigger, graph);
+    assert!(left.pairs().all(|(state, node)| admitted.has(state, node)), "{label}: a mark that is not admitted");
+
+    let mut trials = answer.trials() as usize;
+    if *marks == standing(trigger, graph) {
+        assert_eq!(left, standing(trigger, &after), "{label}: marks");
+        if inserts {
+            trials = trial_set(trigger, &after, marks, edge).size();
+        }
+    }
+    if inserts {
+        assert!(trials <= admitted.size(), "{label}: more trials than admitted pairs");
+    } else {
+        trials = list.len();
+    }
+    let report = Report { fires: fires(trigger, &after, &left), trials, changes: list };
+    assert_eq!(answer, accepted(&report), "{label}: answer");
+}
+
+/// The marks that a session holds for its states.
+fn left_marks(trigger: &Trigger, session: &[u32]) -> Relation {
+    let nodes = session[1] as usize;
+    Relation::of(trigger.states.len(), nodes, |state, node| session[2611 + node] >> state & 1 == 1)
+}
+
+/// A loaded session with a rest past its fixed size.
+fn loaded(case: &Case) -> Vec<u32> {
+    let mut session = vec![0xDEAD_BEEF; SESSION + 5];
+    let answer = Engine.load(&mut session, case, &mut vec![0; ROOM]);
+    assert_eq!(answer.rule(), 0);
+    session
+}
+
+/// Another value for a word: a bit more or less, a neighbour, one too large, or anything.
+fn other(random: &mut Random, word: u32) -> u32 {
+    match random.below(8) {
+        0..=2 => word ^ 1 << random.below(16),
+        3 => word ^ 1 << random.below(32),
+        4 => word.wrapping_add(1),
+        5 => word.wrapping_sub(1),
+        6 => random.below(1 << 18) as u32,
+        _ => random.word() as u32,
+    }
+}
+
+fn sessions(random: &mut Random) -> Vec<Vec<u32>> {
+    [(3, 6, 12), (1, 0, 0), (16, 512, 2048), (5, 512, 700), (16, 40, 1600), (9, 129, 130)]
+        .iter()
+        .map(|(states, nodes, edges)| loaded(&Case::random(random, *states, *nodes, *edges, 3)))
+        .collect()
+}
+
+#[test]
+fn every_word_damaged() {
+    let seed = seed("every_word_damaged");
+    let mut random = Random::new(seed, 0);
+    let (mut inside, mut outside) = (0, 0);
+    for (number, session) in sessions(&mut random).iter().enumerate() {
+        assert!(all_calls(Engine, session, &mut random, &format!("session {number} as loaded")));
+        for place in 0..session.len() {
+            let mut session = session.clone();
+            session[place] = other(&mut random, session[place]);
+            let label = format!("seed {seed}, session {number}, word {place} is {}", session[place]);
+            if all_calls(Engine, &session, &mut random, &label) {
+                inside += 1;
+            } else {
+                outside += 1;
+            }
+        }
+    }
+    assert!(inside > 500 && outside > 5_000, "{inside} in layout, {outside} not");
+}
+
+/// Few states, nodes and edges, where damage often stays in layout: marks that are not those of their graph.
+#[test]
+fn small_sessions_damaged() {
+    let seed = seed("small_sessions_damaged");
+    let (mut inside, mut outside) = (0, 0);
+    for number in 0..12_000 {
+        let mut random = Random::new(seed, number);
+        let (states, nodes) = (random.between(1, 4), random.between(1, 6));
+        let edges = random.below(nodes * nodes + 1);
+        let mut session = loaded(&Case::random(&mut random, states, nodes, edges, 2));
+        for _ in 0..random.between(1, 2) {
+            let used = [(0, 3), (3, states), (19, states), (35, states), (51, nodes), (563, edges + 1), (2611, nodes)];
+            let section = if random.once_in(2) { used[6] } else { *random.pick(&used) };
+            let place = section.0 + random.below(section.1);
+            session[place] = match random.below(3) {
+                0 => other(&mut random, session[place]),
+                1 => session[place] ^ 1 << random.below(states),
+                _ => session[place] & random.word() as u32,
+            };
+        }
+        let label = format!("seed {seed}, case {number}");
+        let in_layout = all_calls(Engine, &session, &mut random, &label);
+        all_calls(Twin, &session, &mut random, &label);
+        if in_layout {
+            inside += 1;
+        } else {
+            outside += 1;
+        }
+    }
+    assert!(inside > 2_000 && outside > 2_000, "{inside} in layout, {outside} not");
+}
+
+/// Two neighbouring edges exchanged, equal, or beyond the nodes; counts that are off by one.
+#[test]
+fn edges_and_counts_damaged() {
+    let seed = seed("edges_and_counts_damaged");
+    for number in 0..600 {
+        let mut random = Random::new(seed, number);
+        let nodes = random.between(2, 512);
+        let edges = random.between(2, (2 * nodes).min(2047));
+        let states = random.between(1, 15);
+        let whole = loaded(&Case::random(&mut random, states, nodes, edges, 3));
+        let held = whole[2] as usize;
+        let place = 563 + random.below(held - 1);
+        let label = format!("seed {seed}, case {number}");
+        let mut damaged = |change: &dyn Fn(&mut Vec<u32>)| {
+            let mut session = whole.clone();
+            change(&mut session);
+            all_calls(Engine, &session, &mut random, &label)
+        };
+        assert!(!damaged(&|session| session.swap(place, place + 1)));
+        assert!(!damaged(&|session| session[place + 1] = session[place]));
+        assert!(!damaged(&|session| session[562 + held] = (nodes * 512) as u32));
+        assert!(!damaged(&|session| session[2] += 1));
+        assert!(!damaged(&|session| session[2] -= 1));
+        assert!(!damaged(&|session| session[2] = 2049));
+        assert!(!damaged(&|session| session[1] = 513));
+        assert!(!damaged(&|session| session[0] = 0));
+        assert!(!damaged(&|session| session[0] = 17));
+        assert!(!damaged(&|session| session[0] = u32::MAX));
+        assert!(!damaged(&|session| session[35] |= 1 << states));
+        assert!(!damaged(&|session| session[2611] |= 1 << states));
+        assert!(!damaged(&|session| session[3 + states] = 1));
+        assert!(!damaged(&|session| session[3] |= 1 << 16));
+        assert!(!damaged(&|session| session[51] |= 1 << 31));
+        // One state or one node more, with nothing at it, is another session in layout.
+        assert!(damaged(&|session| session[0] += 1));
+        assert_eq!(damaged(&|session| session[1] += 1), nodes < 512);
+    }
+}
+
+#[test]
+fn zeroed_memory_is_not_in_layout() {
+    let mut random = Random::new(1, 1);
+    assert!(!all_calls(Engine, &[0; SESSION], &mut random, "zeroed"));
+}
+
+/// Memory shorter than the fixed size meets 3, whatever it holds; questions ask for no change room.
+#[test]
+fn short_memory() {
+    let mut random = Random::new(2, 2);
+    let whole = loaded(&Case::random(&mut random, 3, 6, 12, 2));
+    for words in [0, 1, 2, 3, 562, 563, 2611, SESSION - 1] {
+        let mut session = whole[..words].to_vec();
+        let mut room = vec![7; ROOM];
+        let case = Case::random(&mut random, 3, 6, 12, 2);
+        assert_eq!(Engine.load(&mut session, &case, &mut room), refused(3));
+        assert_eq!(Engine.insert(&mut session, 0, 1, &mut room), refused(3));
+        assert_eq!(Engine.delete(&mut session, 600, 1, &mut room), refused(3));
+        assert_eq!(Engine.matches(&session, 99, 99), refused(3));
+        assert_eq!(Engine.fires(&session), refused(3));
+        let mut states = [7; 16];
+        assert_eq!(Engine.order(&session, &mut states), refused(3));
+        assert_eq!(session, whole[..words]);
+        assert!(room.iter().all(|place| *place == 7) && states == [7; 16]);
+    }
+    // Rule 3 comes before rule 10: a short room and a session that is not in layout.
+    for places in [0, 1, ROOM - 1] {
+        let mut session = vec![0; SESSION];
+        assert_eq!(Engine.insert(&mut session, 0, 0, &mut vec![7; places]), refused(3));
+        assert_eq!(Engine.delete(&mut session, 0, 0, &mut vec![7; places]), refused(3));
+    }
+    for places in 0..16 {
+        let mut states = vec![7; places];
+        assert_eq!(Engine.order(&whole, &mut states), refused(3));
+        assert!(states.iter().all(|place| *place == 7));
+    }
+}

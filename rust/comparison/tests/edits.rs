@@ -1,0 +1,191 @@
+//! Loads and long lists of edits, refused ones included, compared after each call.
+
+use comparison::random::seed;
+use comparison::{Case, Edit, Engine, Follower, Random, Subject, Twin};
+
+/// Random cases, each followed through at most so many edits. Gives how many edits changed a pair.
+fn follow<S: Subject>(subject: S, test: &str, cases: u64, edits: usize, case: impl Fn(&mut Random) -> Case) -> usize {
+    let seed = seed(test);
+    let mut changed = 0;
+    for number in 0..cases {
+        let mut random = Random::new(seed, number);
+        let case = case(&mut random);
+        let label = format!("{test}: seed {seed}, case {number}");
+        let mut follower = Follower::load(subject, &mut random, &label, &case);
+        for _ in 0..random.below(edits + 1) {
+            let edit = follower.any_edit(&mut random);
+            if random.once_in(50) {
+                let _ = follower.edit_in(edit, random.below(8192));
+            } else {
+                let _ = follower.edit(edit);
+            }
+            if random.once_in(8) {
+                let nodes = follower.book.graph.nodes();
+                follower.ask(random.below(18) as u32, random.below(nodes + 1) as u32);
+                follower.ask_trigger();
+            }
+        }
+        if case.samples.len() < 10 || random.once_in(10) {
+            follower.ask_all();
+        }
+        changed += follower.changed;
+    }
+    changed
+}
+
+fn small(random: &mut Random) -> Case {
+    let (states, nodes) = (random.between(1, 4), random.below(7));
+    let (edges, kinds) = (random.below(nodes * nodes + 1), random.between(1, 3));
+    Case::random(random, states, nodes, edges, kinds)
+}
+
+fn middle(random: &mut Random) -> Case {
+    let (states, nodes) = (random.between(1, 16), random.between(1, 60));
+    let (edges, kinds) = (random.below(4 * nodes), random.between(1, 5));
+    Case::random(random, states, nodes, edges, kinds)
+}
+
+fn large(random: &mut Random) -> Case {
+    let (states, nodes) = (random.between(12, 16), random.between(400, 512));
+    let (edges, kinds) = (random.between(1000, 2048), random.between(1, 12));
+    Case::random(random, states, nodes, edges, kinds)
+}
+
+fn full(random: &mut Random) -> Case {
+    let kinds = random.between(1, 12);
+    Case::random(random, 16, 512, 2048, kinds)
+}
+
+#[test]
+fn small_and_dense() {
+    let changed = follow(Engine, "small_and_dense", 20_000, 40, small);
+    assert!(changed > 20_000, "only {changed} edits changed a pair");
+}
+
+#[test]
+fn middle_sizes() {
+    let changed = follow(Engine, "middle_sizes", 1_500, 60, middle);
+    assert!(changed > 1_500, "only {changed} edits changed a pair");
+}
+
+#[test]
+fn large_sizes() {
+    let changed = follow(Engine, "large_sizes", 40, 60, large);
+    assert!(changed > 40, "only {changed} edits changed a pair");
+}
+
+#[test]
+fn every_limit_at_once() {
+    let changed = follow(Engine, "every_limit_at_once", 30, 60, full);
+    assert!(changed > 30, "only {changed} edits changed a pair");
+}
+
+#[test]
+fn one_long_list() {
+    let case = |random: &mut Random| Case::random(random, 6, 24, 60, 3);
+    let changed = follow(Engine, "one_long_list", 8, 20_000, case);
+    assert!(changed > 2_000, "only {changed} edits changed a pair");
+}
+
+#[test]
+fn the_twin_of_the_benchmark() {
+    follow(Twin, "the_twin_of_the_benchmark", 5_000, 40, small);
+    follow(Twin, "the_twin_of_the_benchmark", 400, 60, middle);
+    follow(Twin, "the_twin_of_the_benchmark", 10, 60, full);
+}
+
+/// A ring of states on a ring of nodes: nothing stands while it is open, everything when it is closed.
+#[test]
+fn rings_opened_and_closed() {
+    let seed = seed("rings_opened_and_closed");
+    let sizes = [(1, 1), (1, 2), (2, 1), (2, 3), (3, 5), (5, 7), (16, 1), (16, 8), (16, 32), (1, 512), (7, 73)];
+    for (number, (states, turns)) in sizes.into_iter().enumerate() {
+        for closed in [false, true] {
+            let mut random = Random::new(seed, number as u64);
+            let label = format!("ring of {states} states and {turns} turns, seed {seed}");
+            let (case, (a, b)) = Case::ring(&mut random, states, turns, closed);
+            let mut follower = Follower::load(Engine, &mut random, &label, &case);
+            let nodes = states * turns;
+            let (insert, delete) = (Edit::Insert(a, b), Edit::Delete(a, b));
+            if closed {
+                let report = follower.edit(delete).unwrap();
+                assert_eq!((report.fires, report.changes.len()), (false, nodes), "{label}");
+            }
+            for _ in 0..2 {
+                let report = follower.edit(insert).unwrap();
+                assert_eq!((report.fires, report.trials, report.changes.len()), (true, nodes, nodes), "{label}");
+                assert_eq!(follower.edit(insert), Err(12), "{label}");
+                let report = follower.edit(delete).unwrap();
+                assert_eq!((report.fires, report.trials, report.changes.len()), (false, nodes, nodes), "{label}");
+                assert_eq!(follower.edit(delete), Err(14), "{label}");
+            }
+            // A chord closes a shorter ring, which stands with all that leads to it where states fit.
+            for _ in 0..6 {
+                let edit = follower.any_edit(&mut random);
+                let _ = follower.edit(edit);
+            }
+            follower.ask_trigger();
+        }
+    }
+}
+
+/// Every trigger of two states with every admission, walked through every graph of three nodes by single edges.
+#[test]
+fn every_graph_of_three_nodes() {
+    every_graph(2, 3);
+}
+
+/// Every trigger of three states with every admission, walked through every graph of two nodes by single edges.
+#[test]
+fn every_graph_of_two_nodes() {
+    every_graph(3, 2);
+}
+
+fn every_graph(states: usize, nodes: usize) {
+    let mut random = Random::new(1, 1);
+    for links in 0..1u32 << (states * states) {
+        for admission in 0..1u32 << (states * nodes) {
+            // State s compares bit s alone; the sample of a node has the bits of the states that admit it.
+            let mut case = Case::default();
+            for state in 0..states {
+                let word = links >> (state * states) & ((1 << states) - 1);
+                case.state(1 << state, 1 << state, word);
+            }
+            for node in 0..nodes {
+                case.samples.push((admission >> (node * states)) as u16 & ((1 << states) - 1));
+            }
+            let label = format!("{states} states, {nodes} nodes, links {links}, admission {admission}");
+            let mut follower = Follower::load(Engine, &mut random, &label, &case);
+            // A Gray code changes one edge a step.
+            for step in 1..1u32 << (nodes * nodes) {
+                let edge = step.trailing_zeros() as usize;
+                let (start, end) = (edge / nodes, edge % nodes);
+                let (a, b) = (start as u32, end as u32);
+                let edit = if follower.book.graph.has(start, end) { Edit::Delete(a, b) } else { Edit::Insert(a, b) };
+                follower.edit(edit).unwrap();
+            }
+        }
+    }
+}
+
+/// A chain into a node whose edge to itself comes and goes: every pair changes, and the list fills the whole room.
+#[test]
+fn chains_that_fill_the_change_room() {
+    let nodes = 512;
+    for against in [false, true] {
+        let number = |place: u32| if against { nodes - 1 - place } else { place };
+        let mut case = Case { samples: vec![0; nodes as usize], ..Case::default() };
+        for state in 0..16 {
+            case.state(0, 0xFFFF, 1 << state);
+        }
+        case.edges(&(1..nodes).map(|place| (number(place - 1), number(place))).collect());
+        let last = number(nodes - 1);
+        let label = format!("chain against the grain: {against}");
+        let mut follower = Follower::load(Engine, &mut Random::new(1, 1), &label, &case);
+        let report = follower.edit_in(Edit::Insert(last, last), 8192).unwrap();
+        assert_eq!((report.fires, report.trials, report.changes.len()), (true, 8192, 8192), "{label}");
+        let report = follower.edit_in(Edit::Delete(last, last), 8192).unwrap();
+        assert_eq!((report.fires, report.trials, report.changes.len()), (false, 8192, 8192), "{label}");
+        assert_eq!(follower.edit_in(Edit::Insert(last, last), 8191), Err(3), "{label}");
+    }
+}

@@ -1,0 +1,118 @@
+//! The cases worked by hand, through the safe calls.
+
+use trigger_engine::{Change, Rule, Session, State};
+
+fn state(mask: u16, value: u16, links: u32) -> State {
+    State { mask, value, links }
+}
+
+fn begins(state: u8, node: u16) -> Change {
+    Change { state, node, begins: true }
+}
+
+fn ceases(state: u8, node: u16) -> Change {
+    Change { state, node, begins: false }
+}
+
+/// Firing, trial count and changes of a report.
+fn told(report: Result<trigger_engine::Report, Rule>) -> Result<(bool, u32, Vec<Change>), Rule> {
+    report.map(|report| (report.fires, report.trials, report.changes().collect()))
+}
+
+#[test]
+fn one_state_without_links() {
+    let mut session = Session::new();
+    let one = [state(0xFFFF, 7, 0)];
+    assert_eq!(told(session.load(&one, &[7], &[])), Ok((true, 1, vec![begins(1, 0)])));
+    assert_eq!(session.matches(1, 0), Ok(true));
+    assert_eq!(told(session.load(&one, &[], &[])), Ok((false, 0, vec![])));
+    assert_eq!(session.matches(1, 0), Err(Rule::Name));
+}
+
+#[test]
+fn a_state_linked_to_itself() {
+    let mut session = Session::new();
+    let one = [state(0xFFFF, 7, 1)];
+    assert_eq!(told(session.load(&one, &[7], &[])), Ok((false, 1, vec![])));
+    assert_eq!(told(session.insert(0, 0)), Ok((true, 1, vec![begins(1, 0)])));
+
+    let both = vec![begins(1, 0), begins(1, 1)];
+    assert_eq!(told(session.load(&one, &[7, 7], &[(0, 1), (1, 0)])), Ok((true, 2, both)));
+    assert_eq!(told(session.delete(0, 1)), Ok((false, 2, vec![ceases(1, 0), ceases(1, 1)])));
+}
+
+#[test]
+fn another_edge_carries_the_link() {
+    let mut session = Session::new();
+    let states = [state(0xFFFF, 1, 0b10), state(0xFFFF, 2, 0)];
+    let report = told(session.load(&states, &[1, 2, 2], &[(0, 1), (0, 2)]));
+    assert_eq!(report, Ok((true, 3, vec![begins(1, 0), begins(2, 1), begins(2, 2)])));
+    assert_eq!(told(session.delete(0, 1)), Ok((true, 0, vec![])));
+}
+
+#[test]
+fn a_mask_of_zero_admits_every_node() {
+    let mut session = Session::new();
+    let report = told(session.load(&[state(0, 0x00FF, 0)], &[0x0000, 0xFFFF], &[]));
+    assert_eq!(report, Ok((true, 2, vec![begins(1, 0), begins(1, 1)])));
+}
+
+#[test]
+fn marks_are_held_where_the_trigger_does_not_fire() {
+    let mut session = Session::new();
+    let states = [state(0xFFFF, 1, 0), state(0xFFFF, 2, 0)];
+    assert_eq!(told(session.load(&states, &[1], &[])), Ok((false, 1, vec![begins(1, 0)])));
+    assert_eq!(session.matches(1, 0), Ok(true));
+    assert_eq!(session.matches(2, 0), Ok(false));
+    assert_eq!(session.fires(), Ok(false));
+}
+
+#[test]
+fn limits() {
+    let mut session = Session::new();
+    let states = |count: usize| vec![state(0, 0, 0); count];
+    assert!(session.load(&states(16), &[], &[]).is_ok());
+    assert_eq!(told(session.load(&states(17), &[], &[])), Err(Rule::States));
+    assert_eq!(told(session.load(&[], &[], &[])), Err(Rule::States));
+    assert!(session.load(&states(1), &[0; 512], &[]).is_ok());
+    assert_eq!(told(session.load(&states(1), &[0; 513], &[])), Err(Rule::Nodes));
+    for count in 1..=16 {
+        let mut linked = states(count);
+        linked[0].links = 1 << (count - 1);
+        assert!(session.load(&linked, &[], &[]).is_ok());
+        linked[0].links = 1 << count;
+        assert_eq!(told(session.load(&linked, &[], &[])), Err(Rule::Link));
+    }
+    assert!(session.load(&states(1), &[0; 512], &[(511, 511)]).is_ok());
+    for edge in [(512, 0), (0, 512)] {
+        assert_eq!(told(session.load(&states(1), &[0; 512], &[edge])), Err(Rule::EdgeNode));
+    }
+
+    let edges: Vec<(u32, u32)> = (0..2049).map(|i| (i / 64, i % 64)).collect();
+    assert!(session.load(&states(1), &[0; 64], &edges[..2048]).is_ok());
+    let before = session.words().to_vec();
+    assert_eq!(told(session.insert(32, 0)), Err(Rule::EdgeLimit));
+    assert_eq!(told(session.insert(31, 63)), Err(Rule::EdgePresent));
+    assert_eq!(told(session.load(&states(1), &[0; 64], &edges)), Err(Rule::Edges));
+    assert_eq!(session.words(), before);
+    assert!(session.delete(31, 63).is_ok());
+    assert!(session.insert(32, 0).is_ok());
+}
+
+/// The memory that is worked out word by word in `docs/LAYOUT.md`.
+#[test]
+fn the_worked_memory() {
+    let mut session = Session::new();
+    let states = [state(0xFFFF, 1, 0b10), state(0xFFFF, 2, 0b01)];
+    session.load(&states, &[1, 2], &[(0, 1), (1, 0)]).unwrap();
+    let mut wanted = vec![0; 3123];
+    wanted[..3].fill(2);
+    wanted[3..5].fill(65_535);
+    for at in [19, 51, 2611] {
+        wanted[at..at + 2].copy_from_slice(&[1, 2]);
+    }
+    wanted[35..37].copy_from_slice(&[2, 1]);
+    wanted[563..565].copy_from_slice(&[1, 512]);
+    assert_eq!(session.words(), wanted);
+    assert_eq!(session.order(), Ok(vec![1, 2]));
+}

@@ -1,0 +1,174 @@
+//! The frame program: lines of an input to output bytes.
+
+use crate::rules::{NODES, ROOM, SESSION, STATES};
+use crate::{Book, Given, Report};
+
+/// A frame of the input.
+#[derive(Clone, Copy, Debug, PartialEq, Eq)]
+enum Frame {
+    State { mask: u16, value: u16, links: u16 },
+    Node { sample: u16 },
+    Run,
+    Insert { start: u16, end: u16 },
+    Delete { start: u16, end: u16 },
+    Order,
+}
+
+/// The program between two lines: states and nodes read so far, and the book after an accepted run.
+#[derive(Default)]
+struct Program {
+    masks: Vec<u16>,
+    values: Vec<u16>,
+    links: Vec<u32>,
+    samples: Vec<u16>,
+    book: Option<Book>,
+}
+
+/// What the program writes for a whole input.
+pub fn output(input: &[u8]) -> Vec<u8> {
+    let mut program = Program::default();
+    let mut written = String::new();
+    for line in lines(input) {
+        written += &match program.take(line) {
+            Ok(answer) => answer,
+            Err(number) => format!("8F{number:02X}\n"),
+        };
+    }
+    written.into_bytes()
+}
+
+/// The lines of an input. Where nothing follows the last line feed there is no further line.
+fn lines(input: &[u8]) -> Vec<&[u8]> {
+    let mut lines: Vec<&[u8]> = input.split(|byte| *byte == b'\n').collect();
+    if lines.last().is_some_and(|line| line.is_empty()) {
+        lines.pop();
+    }
+    lines
+}
+
+/// The number that four digits say, upper-case and most significant first.
+fn word(digits: &[u8]) -> Option<u16> {
+    let digit = |byte: &u8| match byte {
+        b'0'..=b'9' => Some(u16::from(byte - b'0')),
+        b'A'..=b'F' => Some(u16::from(byte - b'A') + 10),
+        _ => None,
+    };
+    assert_eq!(digits.len(), 4);
+    let digits: Vec<u16> = digits.iter().map(digit).collect::<Option<_>>()?;
+    Some(digits.iter().fold(0, |word, digit| word * 16 + digit))
+}
+
+/// The frame that a line is.
+fn frame(line: &[u8]) -> Option<Frame> {
+    let kind = line.get(..2)?;
+    let rest = &line[2..];
+    if !rest.len().is_multiple_of(4) {
+        return None;
+    }
+    let words: Vec<u16> = rest.chunks(4).map(word).collect::<Option<_>>()?;
+    match (kind, words.as_slice()) {
+        (b"01", &[mask, value, links]) => Some(Frame::State { mask, value, links }),
+        (b"02", &[sample]) => Some(Frame::Node { sample }),
+        (b"03", &[]) => Some(Frame::Run),
+        (b"04", &[start, end]) => Some(Frame::Insert { start, end }),
+        (b"05", &[start, end]) => Some(Frame::Delete { start, end }),
+        (b"06", &[]) => Some(Frame::Order),
+        _ => None,
+    }
+}
+
+/// An accepted line and a line for each change.
+fn told(report: &Report) -> String {
+    let fires = u8::from(report.fires);
+    let count = report.changes.len();
+    let mut text = format!("80{fires:02X}{:04X}{count:04X}\n", report.trials);
+    for change in &report.changes {
+        text += &format!("81{change:08X}\n");
+    }
+    text
+}
+
+impl Program {
+    /// Takes one line: what is written for it, or the number of the rule that it breaks.
+    fn take(&mut self, line: &[u8]) -> Result<String, u8> {
+        let frame = frame(line).ok_or(1)?;
+        match &mut self.book {
+            None => self.before_run(frame),
+            Some(book) => after_run(book, frame),
+        }
+    }
+
+    fn before_run(&mut self, frame: Frame) -> Result<String, u8> {
+        match frame {
+            Frame::State { .. } if self.masks.len() == STATES => Err(4),
+            Frame::State { mask, value, links } => {
+                self.masks.push(mask);
+                self.values.push(value);
+                self.links.push(links.into());
+                Ok(String::new())
+            }
+            Frame::Node { .. } if self.samples.len() == NODES => Err(6),
+            Frame::Node { sample } => {
+                self.samples.push(sample);
+                Ok(String::new())
+            }
+            Frame::Run => {
+                let given = Given {
+                    masks: &self.masks,
+                    values: &self.values,
+                    links: &self.links,
+                    samples: &self.samples,
+                    starts: &[],
+                    ends: &[],
+                };
+                let (book, report) = Book::load(SESSION, ROOM, &given)?;
+                self.book = Some(book);
+                Ok(told(&report))
+            }
+            Frame::Insert { .. } | Frame::Delete { .. } | Frame::Order => Err(2),
+        }
+    }
+}
+
+fn after_run(book: &mut Book, frame: Frame) -> Result<String, u8> {
+    match frame {
+        Frame::State { .. } | Frame::Node { .. } | Frame::Run => Err(2),
+        Frame::Insert { start, end } => {
+            let report = book.insert(ROOM, start.into(), end.into())?;
+            Ok(told(&report))
+        }
+        Frame::Delete { start, end } => {
+            let report = book.delete(ROOM, start.into(), end.into())?;
+            Ok(told(&report))
+        }
+        Frame::Order => {
+            let states: String = book.order().iter().map(|state| format!("{state:02X}")).collect();
+            Ok(format!("82{states}\n"))
+        }
+    }
+}
+
+#[cfg(test)]
+mod tests {
+    use super::*;
+
+    #[test]
+    fn the_session_of_the_scope() {
+        let input = "01FFFF00010002\n01FFFF00020001\n020001\n020002\n03\n0400000001\n0400010000\n0400010000\n\
+                     0500000001\n06\n";
+        let printed = "800000020000\n800000010000\n800100020002\n8100000001\n8100000042\n8F0C\n800000020002\n\
+                       81FFFFFFFF\n81FFFFFFBE\n820102\n";
+        assert_eq!(output(input.as_bytes()), printed.as_bytes());
+        assert_eq!(output(input.trim_end().as_bytes()), printed.as_bytes());
+    }
+
+    #[test]
+    fn lines_that_are_no_frames() {
+        assert_eq!(output(b""), b"");
+        for line in ["", "0", "3", "07", "00", "80", "03\r", " 03", "0300", "01FFFF0001000", "02000a", "0A"] {
+            assert_eq!(output(format!("{line}\n").as_bytes()), b"8F01\n", "{line:?}");
+        }
+        assert_eq!(output(b"03"), b"8F04\n");
+        assert_eq!(output(b"0400000000\n06"), b"8F02\n8F02\n");
+    }
+}

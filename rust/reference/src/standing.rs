@@ -1,0 +1,36 @@
+//! The greatest simulation, and firing.
+
+use crate::{Graph, Relation, Trigger};
+
+/// The admitted pairs.
+pub fn admitted(trigger: &Trigger, graph: &Graph) -> Relation {
+    Relation::of(trigger.states.len(), graph.nodes(), |state, node| trigger.states[state].admits(graph.samples[node]))
+}
+
+/// Whether each link of the state is carried by an edge from the node into the relation.
+fn supported(trigger: &Trigger, graph: &Graph, relation: &Relation, state: usize, node: usize) -> bool {
+    trigger.states[state].links.iter().all(|target| graph.ends[node].iter().any(|end| relation.has(*target, *end)))
+}
+
+/// The pairs that stand: from the admitted ones, unsupported ones are removed until none is left.
+pub fn standing(trigger: &Trigger, graph: &Graph) -> Relation {
+    let mut relation = admitted(trigger, graph);
+    loop {
+        let mut removed = false;
+        for (state, node) in relation.places() {
+            if relation.has(state, node) && !supported(trigger, graph, &relation, state, node) {
+                relation.remove(state, node);
+                removed = true;
+            }
+        }
+        if !removed {
+            return relation;
+        }
+    }
+}
+
+/// Whether every state has a node in the relation.
+pub fn fires(trigger: &Trigger, graph: &Graph, relation: &Relation) -> bool {
+    let states = 0..trigger.states.len();
+    states.into_iter().all(|state| (0..graph.nodes()).any(|node| relation.has(state, node)))
+}

@@ -1,0 +1,114 @@
+//! The fixed points held against their definitions, by trying every set of pairs: all triggers of two states, all
+//! admissions and all graphs of two nodes, each with every edge inserted or deleted.
+
+use reference::rules::{ROOM, SESSION};
+use reference::standing::admitted;
+use reference::{Book, Given, Graph, Relation, Trigger};
+
+const STATES: usize = 2;
+const NODES: usize = 2;
+
+/// A set of pairs as bits.
+fn relation(set: u32) -> Relation {
+    Relation::of(STATES, NODES, |state, node| set >> (node * STATES + state) & 1 == 1)
+}
+
+fn bits(relation: &Relation) -> u32 {
+    relation.pairs().map(|(state, node)| 1 << (node * STATES + state)).sum()
+}
+
+/// Whether each pair is admitted, and each link of its state is carried by an edge into the set.
+fn is_simulation(trigger: &Trigger, graph: &Graph, set: &Relation) -> bool {
+    set.pairs().all(|(state, node)| {
+        let carried = |target: &usize| (0..NODES).any(|end| graph.has(node, end) && set.has(*target, end));
+        trigger.states[state].admits(graph.samples[node]) && trigger.states[state].links.iter().all(carried)
+    })
+}
+
+/// The union of all simulations.
+fn union_of_simulations(trigger: &Trigger, graph: &Graph) -> u32 {
+    let sets = (0..1 << (STATES * NODES)).filter(|set| is_simulation(trigger, graph, &relation(*set)));
+    sets.fold(0, |union, set| union | set)
+}
+
+/// The intersection of all sets of fresh pairs that hold both clauses of the trial set.
+fn least_trial_set(trigger: &Trigger, graph: &Graph, before: u32, (start, end): (usize, usize)) -> u32 {
+    let admitted = admitted(trigger, graph);
+    let fresh = bits(&admitted) & !before;
+    let closed = |set: &u32| {
+        let held = relation(*set);
+        relation(fresh).pairs().all(|(state, node)| {
+            let links = &trigger.states[state].links;
+            let first = node == start && links.iter().any(|target| admitted.has(*target, end));
+            let next = |target: &usize| (0..NODES).any(|to| graph.has(node, to) && held.has(*target, to));
+            let second = links.iter().any(next);
+            !(first || second) || held.has(state, node)
+        })
+    };
+    let sets = (0..1 << (STATES * NODES)).filter(|set| set & !fresh == 0).filter(closed);
+    sets.fold(u32::MAX, |least, set| least & set)
+}
+
+/// Whether a changed pair has a chain of changed pairs to the edge's start, along links and edges of the graph.
+fn has_chain(trigger: &Trigger, graph: &Graph, changed: &Relation, pair: (usize, usize), start: usize) -> bool {
+    let mut reached = vec![pair];
+    let mut place = 0;
+    while let Some((state, node)) = reached.get(place).copied() {
+        if node == start {
+            return true;
+        }
+        for next in changed.pairs() {
+            let follows = trigger.states[state].links.contains(&next.0) && graph.has(node, next.1);
+            if follows && !reached.contains(&next) {
+                reached.push(next);
+            }
+        }
+        place += 1;
+    }
+    false
+}
+
+/// The book of a load: two bits of links and of admission for each state and node, and a set of edges.
+fn book(links: u32, admission: u32, edges: u32) -> Book {
+    let held: Vec<u32> = (0..4).filter(|edge| edges >> edge & 1 == 1).collect();
+    let given = Given {
+        masks: &[1, 2],
+        values: &[1, 2],
+        links: &[links & 3, links >> 2],
+        samples: &[admission as u16 & 3, admission as u16 >> 2],
+        starts: &held.iter().map(|edge| edge / 2).collect::<Vec<u32>>(),
+        ends: &held.iter().map(|edge| edge % 2).collect::<Vec<u32>>(),
+    };
+    Book::load(SESSION, ROOM, &given).unwrap().0
+}
+
+#[test]
+fn standing_trials_and_chains() {
+    for case in 0..1u32 << 12 {
+        let (links, admission, edges) = (case & 15, case >> 4 & 15, case >> 8);
+        let before = book(links, admission, edges);
+        let stood = bits(&before.standing);
+        assert_eq!(stood, union_of_simulations(&before.trigger, &before.graph), "case {case}");
+        for edge in 0..4u32 {
+            let (start, end) = (edge / 2, edge % 2);
+            let label = format!("case {case}, edge ({start}, {end})");
+            let mut after = before.clone();
+            let inserts = edges >> edge & 1 == 0;
+            let (report, with_edge) = if inserts {
+                let report = after.insert(ROOM, start, end).unwrap();
+                let tried = least_trial_set(&after.trigger, &after.graph, stood, (start as usize, end as usize));
+                assert_eq!(report.trials, tried.count_ones() as usize, "{label}");
+                (report, after.graph.clone())
+            } else {
+                (after.delete(ROOM, start, end).unwrap(), before.graph.clone())
+            };
+            let stands = bits(&after.standing);
+            assert_eq!(stands, union_of_simulations(&after.trigger, &after.graph), "{label}");
+            let changed = relation(stood ^ stands);
+            assert_eq!(report.changes.len(), changed.size(), "{label}");
+            for pair in changed.pairs() {
+                assert!(has_chain(&after.trigger, &with_edge, &changed, pair, start as usize), "{label}: {pair:?}");
+            }
+        }
+    }
+}

@@ -1,0 +1,110 @@
+//! Places of the session's sections, and the layout test.
+
+use crate::states::States;
+
+pub const STATES: usize = 16;
+pub const NODES: usize = 512;
+pub const EDGES: usize = 2048;
+pub const ROOM: usize = 8192;
+pub const MASKS_AT: usize = 3;
+pub const VALUES_AT: usize = MASKS_AT + STATES;
+pub const LINKS_AT: usize = VALUES_AT + STATES;
+pub const SAMPLES_AT: usize = LINKS_AT + STATES;
+pub const EDGES_AT: usize = SAMPLES_AT + NODES;
+pub const MARKS_AT: usize = EDGES_AT + EDGES;
+pub const SESSION: usize = MARKS_AT + NODES;
+
+/// The counts of a session in layout, its states, and the states that have a mark.
+pub struct Shape {
+    pub states: States,
+    pub nodes: usize,
+    pub edges: usize,
+    pub marked: u32,
+}
+
+/// The bitwise union of words.
+pub fn union(words: &[u32]) -> u32 {
+    words.iter().fold(0, |all, word| all | word)
+}
+
+/// The layout test: nothing where the memory, of the fixed size at least, is not in layout.
+pub fn shape(session: &[u32]) -> Option<Shape> {
+    let fixed: &[u32; SESSION] = session.first_chunk()?;
+    let (count, nodes, edges) = (fixed[0] as usize, fixed[1] as usize, fixed[2] as usize);
+    if count == 0 || count > STATES || nodes > NODES || edges > EDGES {
+        return None;
+    }
+    let section = |at: usize, size: usize, used: usize| fixed[at..at + size].split_at(used);
+    let (masks, no_masks) = section(MASKS_AT, STATES, count);
+    let (values, no_values) = section(VALUES_AT, STATES, count);
+    let (links, no_links) = section(LINKS_AT, STATES, count);
+    let (samples, no_samples) = section(SAMPLES_AT, NODES, nodes);
+    let (numbers, no_numbers) = section(EDGES_AT, EDGES, edges);
+    let (marks, no_marks) = section(MARKS_AT, NODES, nodes);
+
+    let words = union(masks) | union(values) | union(samples);
+    let unused = [no_masks, no_values, no_links, no_samples, no_numbers, no_marks];
+    let unused = unused.iter().fold(0, |all, words| all | union(words));
+    let states = States::read(fixed, count);
+    let marked = union(marks);
+    let sets = (union(links) | marked) & !states.all();
+    let fault = words >> 16 | unused | sets | edge_fault(numbers, nodes);
+    if fault != 0 || mark_fault(&states, samples, marks, marked) {
+        return None;
+    }
+    Some(Shape { states, nodes, edges, marked })
+}
+
+/// Not zero where an edge names a node that is not there, or edges do not ascend strictly.
+fn edge_fault(numbers: &[u32], nodes: usize) -> u32 {
+    let Some(last) = numbers.last() else { return 0 };
+    // Numbers below 2 to the 18th: their differences keep the sign.
+    let end_fault = |number: u32| (nodes as u32).wrapping_sub(1 + (number & 511));
+    let (mut wide, mut signs) = (*last, end_fault(*last));
+    for (number, next) in numbers.iter().zip(&numbers[1..]) {
+        wide |= number;
+        signs |= end_fault(*number) | next.wrapping_sub(*number).wrapping_sub(1);
+    }
+    wide >> 18 | signs >> 31 | u32::from(*last as usize >= nodes * 512)
+}
+
+/// Whether a mark is at a pair that is not admitted. Words are known to have 16 bits.
+fn mark_fault(states: &States, samples: &[u32], marks: &[u32], marked: u32) -> bool {
+    // Short words, so that a vector has more of them.
+    let short = |words: &[u32]| {
+        let mut short = [0u16; NODES];
+        for (short, word) in short.iter_mut().zip(words) {
+            *short = *word as u16;
+        }
+        short
+    };
+    if marked == 0 {
+        return false;
+    }
+    let nodes = samples.len().next_multiple_of(16);
+    let (samples, marks) = (short(samples), short(marks));
+    let mut fault = 0;
+    let mut left = marked;
+    while left != 0 {
+        // Four states at a time; where fewer are left, State One is tested again.
+        let group: [usize; 4] = std::array::from_fn(|_| {
+            let state = left.trailing_zeros() as usize % STATES;
+            left &= left.wrapping_sub(1);
+            state
+        });
+        let masks = group.map(|state| states.masks[state]);
+        let wanted = group.map(|state| states.values[state] & states.masks[state]);
+        let [mut one, mut two, mut three, mut four] = [0; 4];
+        for (sample, word) in samples[..nodes].iter().zip(&marks[..nodes]) {
+            let wrong = |place: usize| if sample & masks[place] == wanted[place] { 0 } else { *word };
+            one |= wrong(0);
+            two |= wrong(1);
+            three |= wrong(2);
+            four |= wrong(3);
+        }
+        for (state, wrong) in group.into_iter().zip([one, two, three, four]) {
+            fault |= wrong & 1 << state;
+        }
+    }
+    fault != 0
+}

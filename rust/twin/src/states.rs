@@ -1,0 +1,92 @@
+//! The states of a trigger, ready for sets of states in a word.
+
+use crate::layout::{LINKS_AT, MASKS_AT, SESSION, STATES, VALUES_AT};
+
+/// Masks, values and links; those of places past the count are zero.
+pub struct States {
+    pub count: usize,
+    pub masks: [u16; STATES],
+    pub values: [u16; STATES],
+    pub links: [u32; STATES],
+}
+
+impl States {
+    /// Reads the states of a session.
+    pub fn read(fixed: &[u32; SESSION], count: usize) -> States {
+        let words = |at: usize| std::array::from_fn(|state| fixed[at + state] as u16);
+        States {
+            count,
+            masks: words(MASKS_AT),
+            values: words(VALUES_AT),
+            links: std::array::from_fn(|state| fixed[LINKS_AT + state]),
+        }
+    }
+
+    /// The set of all states.
+    pub fn all(&self) -> u32 {
+        (1 << self.count) - 1
+    }
+
+    /// The states that admit a sample.
+    pub fn admitting(&self, sample: u32) -> u32 {
+        let sample = sample as u16;
+        let bit = |state: usize| {
+            let agrees = (sample ^ self.values[state]) & self.masks[state] == 0;
+            if agrees { 1 << state } else { 0 }
+        };
+        let bits: [u16; STATES] = std::array::from_fn(bit);
+        let admitting = bits.iter().fold(0, |all, bit| all | bit);
+        u32::from(admitting) & self.all()
+    }
+
+    /// For each state the set of states with a link to it.
+    pub fn callers(&self) -> Callers {
+        let mut callers = [0; STATES];
+        for (state, links) in self.links.iter().enumerate() {
+            let mut left = *links;
+            while left != 0 {
+                callers[left.trailing_zeros() as usize % STATES] |= 1 << state;
+                left &= left - 1;
+            }
+        }
+        Callers(callers)
+    }
+
+    /// The states of a set that have a link outside another set.
+    pub fn uncarried(&self, mut set: u32, reached: u32) -> u32 {
+        let mut uncarried = 0;
+        while set != 0 {
+            let state = set.trailing_zeros() as usize % STATES;
+            if self.links[state] & !reached != 0 {
+                uncarried |= 1 << state;
+            }
+            set &= set - 1;
+        }
+        uncarried
+    }
+
+    /// All links of the states of a set.
+    pub fn targets(&self, mut set: u32) -> u32 {
+        let mut targets = 0;
+        while set != 0 {
+            targets |= self.links[set.trailing_zeros() as usize % STATES];
+            set &= set - 1;
+        }
+        targets
+    }
+}
+
+/// For each state the set of states with a link to it.
+pub struct Callers([u32; STATES]);
+
+impl Callers {
+    /// The states that have a link into a set.
+    pub fn into(&self, mut set: u32) -> u32 {
+        let mut callers = 0;
+        while set != 0 {
+            callers |= self.0[set.trailing_zeros() as usize % STATES];
+            set &= set - 1;
+        }
+        callers
+    }
+}
