@@ -1,6 +1,6 @@
 // The session in lent memory: its sections filled, and the test of its layout.
 ghost use mathlib.Core.Path.{_≡_};
-ghost use mathlib.Core.Bool.{true, not, _&&_};
+ghost use mathlib.Core.Bool.{cond, true, not, _&&_};
 ghost use Prim.Native.Nat.{ℕ, _+_, _^_, _<_, _≤_};
 ghost use lib.Dec.{leb};
 ghost use lib.ListN.{length, getD};
@@ -132,23 +132,24 @@ pub fn section_fits(place: &[u32], used: usize, k: u32) -> bool
     bits::subset(inside, bits::below(k)) && unused == 0
 }
 
-// Whether each edge joins two of the nodes.
+// Whether each edge joins two of the nodes. Starts and ends are folded apart: each fold is one test for the compiler.
 pub fn all_named(edges: &[u32], nodes: u32) -> bool
     ensures { λ r. ⌜ r ≡ allNamed nodes (now (edges .entry)) ⌝ }
 {
-    let mut faults: u32 = 0;
+    let mut starts: u32 = 0;
+    let mut ends: u32 = 0;
     let mut k = 0;
     while k < edges.len() {
         let edge = edges[k];
         if nodes <= edge / EDGE_BASE {
-            faults = 1;
+            starts = 1;
         }
         if nodes <= edge % EDGE_BASE {
-            faults = 1;
+            ends = 1;
         }
         k += 1;
     }
-    faults == 0
+    starts == 0 && ends == 0
 }
 
 // Whether each edge is below the next.
@@ -166,6 +167,13 @@ pub fn all_ascend(edges: &[u32]) -> bool
     faults == 0
 }
 
+// The word where the test holds, and no bit where it does not: a fold over it has no branch.
+pub fn picked(word: u32, test: bool) -> u32
+    ensures { λ r. ⌜ r ≡ cond test word 0 ⌝ }
+{
+    if test { word } else { 0 }
+}
+
 // The marks at nodes whose sample the mask and the value do not admit.
 pub fn strays(samples: &[u32], marks: &[u32], mask: u32, value: u32) -> u32
     requires { ⌜ (length (now samples) ≡ length (now marks)) × (mask < 2 ^ wordBits) ⌝ }
@@ -174,9 +182,7 @@ pub fn strays(samples: &[u32], marks: &[u32], mask: u32, value: u32) -> u32
     let mut all = 0;
     let mut v = 0;
     while v < marks.len() {
-        if (value ^ samples[v]) & mask != 0 {
-            all = all | marks[v];
-        }
+        all = all | picked(marks[v], (value ^ samples[v]) & mask != 0);
         v += 1;
     }
     all

@@ -112,6 +112,17 @@ all-take (suc n) f h q l =
     all-take n f (and-r (f n) (allBelow n f) h) q (omega arith))
     (split (f q))
 
+pub all-both : (n : ℕ) (f g : Set) → allBelow n (λ q. f q && g q) ≡ (allBelow n f && allBelow n g)
+all-both n f g =
+    same (allBelow n (λ q. f q && g q)) (allBelow n f && allBelow n g)
+    (λ h.
+    and-make
+    (all-make n f (λ q l. and-l (f q) (g q) (all-take n (λ q. f q && g q) h q l)))
+    (all-make n g (λ q l. and-r (f q) (g q) (all-take n (λ q. f q && g q) h q l))))
+    (λ h.
+    all-make n (λ q. f q && g q)
+    (λ q l. and-make (all-take n f (and-l (allBelow n f) (allBelow n g) h) q l) (all-take n g (and-r (allBelow n f) (allBelow n g) h) q l)))
+
 pub all-false : (n : ℕ) (f : Set) → allBelow n f ≡ false → (q : ℕ) × (q < n) × (f q ≡ false)
 unfolding allBelow
 all-false zero f h = clash refl h

@@ -1,15 +1,15 @@
 -- `session::strays` meets its contract: after v nodes `all` has the marks at these that are not admitted.
-use Prim.Native.Nat.{_-_, _≤_}
+use Prim.Native.Nat.{ℕ, _-_, _≤_}
 use borrow.Author.Needs.{needs}
-use borrow.Author.Tests.{eq-eqb, ne-eqb}
 use native.Mathlib.Omega.{arith}
-use mathlib.Core.Path.{_≡_, sym, fun-ext, _∙_}
-use mathlib.Core.Bool.{and-true, and-false}
-use mathlib.Core.Logic.{⊎-elim}
+use mathlib.Core.Path.{_≡_, sym, ap, fun-ext, _∙_}
+use mathlib.Core.Bool.{Bool, true, false, not, _&&_, and-true, and-false, cond}
 use lib.Bits.{bitAnd, bitXor}
+use lib.Dec.{eqb}
 use lib.ListN.{length, getD}
 use Rattle.bits.specs.Word.{members}
-use Rattle.bits.proofs.Gathers.{gathers, gather-none, gather-more, gather-pass}
+use Rattle.bits.proofs.Words.{zero-members}
+use Rattle.bits.proofs.Gathers.{gathers, gather-none, gather-more}
 use Rattle.session.proofs.Admission.{agrees-masked, stray}
 use Rattle.session.proofs.strays.Statement.{statement}
 use Rattle.session.proofs.strays.Tie as tie
@@ -21,19 +21,22 @@ abbrev μ-loop : tie.MeasureT-loop
 μ-loop samples marks mask value all₀ v₀ all v = length marks - v
 
 loop-holds : tie.Need-loop-holds Inv-loop μ-loop
-loop-holds c = let a = c .args in (omega arith, gather-none (stray (a .samples .now) (a .marks .now) (a .mask) (a .value)))
+loop-holds c = let a = c .before .before .args in (omega arith, gather-none (stray (a .samples .now) (a .marks .now) (a .mask) (a .value)))
 
-mul-if1 : tie.Need-mul-if1 Inv-loop μ-loop
-mul-if1 c = search needs
+mul-picked : tie.Need-mul-picked Inv-loop μ-loop
+mul-picked c = search needs
 
-shared-slice-read-if1 : tie.Need-shared-slice-read-if1 Inv-loop μ-loop
-shared-slice-read-if1 c = search needs
+shared-slice-read-picked : tie.Need-shared-slice-read-picked Inv-loop μ-loop
+shared-slice-read-picked c = search needs
 
-mul-all : tie.Need-mul-all Inv-loop μ-loop
-mul-all c = search needs
+mul-picked-2 : tie.Need-mul-picked-2 Inv-loop μ-loop
+mul-picked-2 c = search needs
 
-shared-slice-read-all : tie.Need-shared-slice-read-all Inv-loop μ-loop
-shared-slice-read-all c = search needs
+shared-slice-read-picked-2 : tie.Need-shared-slice-read-picked-2 Inv-loop μ-loop
+shared-slice-read-picked-2 c = search needs
+
+picked-requires : tie.Need-picked-requires Inv-loop μ-loop
+picked-requires c κs = search needs
 
 add-v : tie.Need-add-v Inv-loop μ-loop
 add-v c = search needs
@@ -41,30 +44,28 @@ add-v c = search needs
 loop-less : tie.Need-loop-less Inv-loop μ-loop
 loop-less c = search needs
 
+-- the members of a word that is picked by a test
+picked-members : (word : ℕ) (test : Bool) (u : ℕ) → members (cond test word 0) u ≡ (members word u && test)
+picked-members word true u = sym (and-true (members word u))
+picked-members word false u = zero-members u ∙ sym (and-false (members word u))
+
 loop-again : tie.Need-loop-again Inv-loop μ-loop
 loop-again c =
-    let a = c .before .before .before .before .args in
-    let l = c .before .before .before .loop in
+    let a = c .before .before .before .before .before .before .before .args in
+    let l = c .before .before .before .before .loop in
     let X = stray (a .samples .now) (a .marks .now) (a .mask) (a .value) in
     let sample = getD (a .samples .now) (l .v) 0 in
     let word = getD (a .marks .now) (l .v) 0 in
-    let differs = bitAnd (bitXor (a .value) sample) (a .mask) in
-    let test = sym (agrees-masked 16 (a .mask) (a .value) sample (c .before .before .before .before .pre .1)) in (
+    let off = not (eqb (bitAnd (bitXor (a .value) sample) (a .mask)) 0) in
+    let same = ap not (agrees-masked 16 (a .mask) (a .value) sample (c .before .before .before .before .before .before .before .pre .1)) in (
       omega arith,
-      ⊎-elim
-          (λ w.
-          let off = test ∙ ne-eqb differs 0 (w .0 .taken) in
-          rw (w .2)
-          (gather-more X (l .all) word (l .v) (l .inv .1) (sym (fun-ext (λ u. rw off (and-true (members word u)))))))
-          (λ w.
-          let on = test ∙ eq-eqb differs 0 (w .0 .left) in
-          rw (w .1) (gather-pass X (l .all) (l .v) (l .inv .1) (λ u. rw on (and-false (members word u)))))
-          (c .if1 .came),
+      gather-more X (l .all) (c .picked .result) (l .v) (l .inv .1)
+          (fun-ext (λ u. ap (λ (w : ℕ). members w u) (c .picked .ensures) ∙ picked-members word off u ∙ ap (λ (b : Bool). members word u && b) same)),
     )
 
 returns : tie.Need-returns Inv-loop μ-loop
 returns c =
-    let end : c .before .loop .v ≡ length (c .before .before .args .marks .now) = omega arith in
+    let end : c .before .loop .v ≡ length (c .before .before .before .before .args .marks .now) = omega arith in
     rw (← end) (c .before .loop .inv .1)
 
 pub strays-spec : {M : Type 1} → statement M
@@ -74,10 +75,11 @@ strays-spec =
     Inv-loop
     μ-loop
     loop-holds
-    mul-if1
-    shared-slice-read-if1
-    mul-all
-    shared-slice-read-all
+    mul-picked
+    shared-slice-read-picked
+    mul-picked-2
+    shared-slice-read-picked-2
+    picked-requires
     add-v
     loop-less
     loop-again
