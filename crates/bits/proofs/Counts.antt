@@ -1,21 +1,22 @@
 -- The laws of counts: one member more, one less, a wider range, and the counts of a word's digits.
-use Prim.Native.Nat.{ℕ, zero, suc, _+_, _/_, _%_, _^_, _≤_, _<_}
+use Prim.Native.Nat.{ℕ, zero, suc, _+_, _-_, _/_, _%_, _^_, _≤_, _<_}
 use native.Mathlib.Nat.{pow-suc}
 use native.Mathlib.Decide.{le-ind}
 use native.Mathlib.Omega.{arith}
-use mathlib.Core.Path.{_≡_, refl, sym, ap, ap₂, _∙_}
+use mathlib.Core.Path.{_≡_, refl, sym, ap, ap₂, fun-ext, _∙_}
 use mathlib.Core.Logic.{⊎-elim}
-use mathlib.Core.Bool.{true, false, _&&_, cond, and-true, or-true, or-false}
+use mathlib.Core.Bool.{Bool, true, false, not, _&&_, cond, and-true, or-true, or-false}
 use lib.Arith.{lt-one}
+use lib.Bits.{bitAnd}
 use lib.Count.{ones, onesIn, ones-step, trailingZeros, under}
 use lib.Dec.{eqb}
 use borrow.Author.Tests.{eqb-true, eqb-false, eq-eqb, ne-eqb}
 use Rattle.simulation.specs.Sets.{Set, In, also, without, count}
-use Rattle.simulation.proofs.Sets.{clash, split, refuted}
+use Rattle.simulation.proofs.Sets.{clash, split, same, refuted}
 use Rattle.simulation.proofs.Loops.{without-gone, count-same, count-apart}
 use Rattle.bits.specs.Word.{bit, members}
 use Rattle.bits.proofs.Bits.{bit-zero, bit-suc}
-use Rattle.bits.proofs.Words.{bit-member, members-below}
+use Rattle.bits.proofs.Words.{bit-member, members-below, and-members}
 
 -- no member below n
 pub count-none : (n : ℕ) (X : Set) → ((p : ℕ) → p < n → X p ≡ false) → count n X ≡ 0
@@ -108,3 +109,40 @@ trailing-lowest (suc k) w h some = by (w % 2) refl (λ rest. trailing-lowest k (
         let r = rest (λ (z : w / 2 ≡ 0). some (omega arith)) in
         (omega (arith, r .0), half-members w (trailingZeros k (w / 2)) ∙ r .1, λ i l. under-lowest w (trailingZeros k (w / 2)) e (r .2) i l)
     by (suc d) e rest = (omega arith, eq-eqb (bit w 0) 1 (bit-zero w ∙ omega arith), λ i l. absurd (omega arith))
+
+-- the word before a word: it lacks the lowest member, and has the higher ones
+before-members : (u w : ℕ) → members w u ≡ true → ((i : ℕ) → i < u → members w i ≡ false) → (i : ℕ)
+    → (members w i && members (w - 1) i) ≡ (members w i && not (eqb i u))
+before-members zero w m h zero =
+    let odd : w % 2 ≡ 1 = sym (bit-zero w) ∙ eqb-true (bit w 0) 1 m in
+    let even : (w - 1) % 2 ≡ 0 = omega arith in
+    let off : members (w - 1) 0 ≡ false = ap (λ (x : ℕ). eqb x 1) (bit-zero (w - 1) ∙ even) in
+    rw off
+before-members zero w m h (suc j) =
+    let odd : w % 2 ≡ 1 = sym (bit-zero w) ∙ eqb-true (bit w 0) 1 m in
+    let half : (w - 1) / 2 ≡ w / 2 = omega arith in
+    let on : members (w - 1) (suc j) ≡ members w (suc j) =
+    half-members (w - 1) j ∙ ap (λ (x : ℕ). members x j) half ∙ sym (half-members w j) in
+    rw (on, ne-eqb (suc j) 0 (omega arith)) (both (members w (suc j)))
+  where
+    both : (p : Bool) → (p && p) ≡ (p && true)
+    both true = refl
+    both false = refl
+before-members (suc u) w m h zero = rw (h 0 (omega arith))
+before-members (suc u) w m h (suc j) =
+    let none = eqb-false (bit w 0) 1 (h 0 (omega arith)) in
+    let even : w % 2 ≡ 0 = omega (arith, bit-zero w) in
+    let half : (w - 1) / 2 ≡ w / 2 - 1 = omega arith in
+    let off : members (w - 1) (suc j) ≡ members (w / 2 - 1) j = half-members (w - 1) j ∙ ap (λ (x : ℕ). members x j) half in
+    rw (half-members w j, off, one-down)
+    (before-members u (w / 2) (sym (half-members w u) ∙ m) (λ i l. sym (half-members w i) ∙ h (suc i) (omega arith)) j)
+  where
+    one-down : eqb (suc j) (suc u) ≡ eqb j u
+    one-down =
+        same (eqb (suc j) (suc u)) (eqb j u)
+        (λ e. let q = eqb-true (suc j) (suc u) e in eq-eqb j u (omega arith))
+        (λ e. let q = eqb-true j u e in eq-eqb (suc j) (suc u) (omega arith))
+
+pub without-lowest : (w u : ℕ) → members w u ≡ true → ((i : ℕ) → i < u → members w i ≡ false)
+    → members (bitAnd w (w - 1)) ≡ without (members w) u
+without-lowest w u m h = fun-ext (λ i. and-members w (w - 1) i ∙ before-members u w m h i)

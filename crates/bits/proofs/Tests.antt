@@ -2,16 +2,16 @@
 use Prim.Native.Nat.{ℕ, zero, suc, _^_, _<_, _≤_}
 use native.Mathlib.Omega.{arith}
 use native.Mathlib.Nat.{lt-of-le-of-lt}
-use mathlib.Core.Path.{_≡_, refl, sym, ap, _∙_}
-use mathlib.Core.Bool.{Bool, true, false, not, _&&_, _||_, Bool·beq}
+use mathlib.Core.Path.{_≡_, refl, sym, ap, ap₂, fun-ext, _∙_}
+use mathlib.Core.Bool.{Bool, true, false, not, _&&_, _||_, Bool·beq, cond, and-false}
 use lib.Dec.{ltb, eqb}
 use lib.Pow.{pow-pos}
 use lib.Bits.{bitAnd, bitXor, and-le-l, and-le-r}
 use borrow.Author.Tests.{ltb-true, lt-ltb, eqb-true, eq-eqb}
 use Rattle.simulation.specs.Sets.{Set, anyBelow, allBelow}
 use Rattle.simulation.proofs.Sets.{same, implies-make, implies-take, all-make, all-take}
-use Rattle.bits.specs.Word.{bit, members, within}
-use Rattle.bits.proofs.Words.{zero-members, same-below, and-members, xor-members}
+use Rattle.bits.specs.Word.{bit, members, within, meets}
+use Rattle.bits.proofs.Words.{bit-member, zero-members, same-below, and-members, xor-members}
 
 beq-same : (p : Bool) → Bool·beq p p ≡ true
 beq-same true = refl
@@ -62,6 +62,18 @@ zero-all k w P h e =
 pub empty-any : (k w : ℕ) → w < 2 ^ k → eqb w 0 ≡ not (anyBelow k (members w))
 empty-any k w h = zero-all k w (λ i. not (members w i)) h (λ i. refl) ∙ sym (not-any k (members w))
 
+-- ---- a common member: a & b is not zero
+
+pub meets-test : (a b : ℕ) → a < 2 ^ 32 → not (eqb (bitAnd a b) 0) ≡ meets a b
+meets-test a b h =
+    ap not (empty-any 32 (bitAnd a b) (lt-of-le-of-lt (and-le-l a b) h))
+    ∙ not-not (anyBelow 32 (members (bitAnd a b)))
+    ∙ ap (anyBelow 32) (fun-ext (λ i. and-members a b i))
+  where
+    not-not : (t : Bool) → not (not t) ≡ t
+    not-not true = refl
+    not-not false = refl
+
 -- ---- a subset: a & b is a
 
 part : (p q : Bool) → Bool·beq (p && q) p ≡ (not p || q)
@@ -91,6 +103,25 @@ masked k m v s h =
     (λ i.
     ap not (and-members (bitXor v s) m i ∙ ap (λ (t : Bool). t && members m i) (xor-members v s i))
     ∙ under (eqb (bit v i) (bit s i)) (members m i))
+
+-- and s & m is v & m
+both : (p q m : Bool) → Bool·beq (p && m) (q && m) ≡ (not m || eqb (cond q 1 0) (cond p 1 0))
+both true true true = refl
+both true false true = refl
+both false true true = refl
+both false false true = refl
+both p q false = ap₂ Bool·beq (and-false p) (and-false q)
+
+pub masked-equal : (k m v s : ℕ) → m < 2 ^ k
+    → eqb (bitAnd s m) (bitAnd v m) ≡ allBelow k (λ i. not (members m i) || eqb (bit v i) (bit s i))
+masked-equal k m v s h =
+    equal-all k (bitAnd s m) (bitAnd v m) (λ i. not (members m i) || eqb (bit v i) (bit s i))
+    (lt-of-le-of-lt (and-le-r s m) h)
+    (lt-of-le-of-lt (and-le-r v m) h)
+    (λ i.
+    ap₂ Bool·beq (and-members s m i) (and-members v m i)
+    ∙ both (members s i) (members v i) (members m i)
+    ∙ ap₂ (λ (x y : ℕ). not (members m i) || eqb x y) (sym (bit-member v i)) (sym (bit-member s i)))
 
 -- the numbers below n are all in g
 pub within-below : (k n b g : ℕ) → n ≤ k → members b ≡ (λ i. ltb i n) → within k b g ≡ allBelow n (members g)

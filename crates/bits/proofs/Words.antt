@@ -4,7 +4,7 @@ use native.Mathlib.Nat.{pow-suc, zero-add, sub-zero, one-mul, le-refl, lt-of-lt-
 use native.Mathlib.Omega.{arith}
 use mathlib.Core.Path.{_≡_, refl, sym, ap, ap₂, subst, fun-ext, _∙_}
 use mathlib.Core.Logic.{⊎-elim}
-use mathlib.Core.Bool.{Bool, true, false, not, _&&_, _||_, cond, and-true, and-false, or-false}
+use mathlib.Core.Bool.{Bool, true, false, not, _&&_, _||_, Bool·beq, cond, and-true, and-false, or-false}
 use lib.Dec.{ltb, eqb}
 use lib.Pow.{pow-pos, pow-mono, pow-lt, ones-sub-lt}
 use lib.Bits.{bitAnd, bitOr, bitXor, differ, or-shifted}
@@ -76,6 +76,22 @@ and-members a b i =
     ap (λ (x : ℕ). eqb x 1) (and-bit a b i ∙ ap₂ min (bit-member a i) (bit-member b i))
     ∙ and-digit (members a i) (members b i)
 
+-- what is masked already
+pub and-again : (a b : ℕ) → bitAnd (bitAnd a b) b ≡ bitAnd a b
+and-again a b =
+    same-members (bitAnd (bitAnd a b) b) (bitAnd a b)
+    (fun-ext
+    (λ i.
+    and-members (bitAnd a b) b i
+    ∙ ap (λ (t : Bool). t && members b i) (and-members a b i)
+    ∙ twice (members a i) (members b i)
+    ∙ sym (and-members a b i)))
+  where
+    twice : (p q : Bool) → ((p && q) && q) ≡ (p && q)
+    twice true true = refl
+    twice true false = refl
+    twice false q = refl
+
 pub or-members : (a b : ℕ) → members (bitOr a b) ≡ union (members a) (members b)
 or-members a b =
     fun-ext
@@ -88,6 +104,20 @@ xor-members a b i =
     ap (λ (x : ℕ). eqb x 1) (xor-bit a b i ∙ ap₂ differ (bit-member a i) (bit-member b i))
     ∙ xor-digit (members a i) (members b i)
     ∙ ap₂ (λ (x y : ℕ). not (eqb x y)) (sym (bit-member a i)) (sym (bit-member b i))
+
+pub differ-members : (a b : ℕ) → members (bitXor a b) ≡ (λ i. not (Bool·beq (members a i) (members b i)))
+differ-members a b =
+    fun-ext
+    (λ i.
+    xor-members a b i
+    ∙ ap₂ (λ (x y : ℕ). not (eqb x y)) (bit-member a i) (bit-member b i)
+    ∙ ap not (digits (members a i) (members b i)))
+  where
+    digits : (p q : Bool) → eqb (cond p 1 0) (cond q 1 0) ≡ Bool·beq p q
+    digits true true = refl
+    digits true false = refl
+    digits false true = refl
+    digits false false = refl
 
 -- ---- the members of a power of two and of the complement, and what these do to another word
 

@@ -1,8 +1,8 @@
 -- A word as a set of small numbers.
 use Prim.Native.Nat.{ℕ, zero, suc, _+_, _/_, _%_, _^_}
-use mathlib.Core.Bool.{Bool, not, _||_, cond}
+use mathlib.Core.Bool.{Bool, not, _&&_, _||_, cond}
 use lib.Dec.{eqb}
-use Rattle.simulation.specs.Sets.{Set, allBelow}
+use Rattle.simulation.specs.Sets.{Set, allBelow, anyBelow}
 
 -- bit i of w: 0 or 1
 abbrev pub bit : ℕ → ℕ → ℕ
@@ -20,3 +20,7 @@ word (suc k) X = cond (X k) (2 ^ k) 0 + word k X
 -- each member of a below k is one of b
 unfoldable pub within : ℕ → ℕ → ℕ → Bool
 within k a b = allBelow k (λ i. not (members a i) || members b i)
+
+-- a and b have a member in common
+abbrev pub meets : ℕ → ℕ → Bool
+meets a b = anyBelow 32 (λ i. members a i && members b i)

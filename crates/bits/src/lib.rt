@@ -1,11 +1,11 @@
 // Sets of the numbers 0 to 31, each held in a word: bit i is 1 where i is a member.
 ghost use mathlib.Core.Path.{_≡_};
-ghost use mathlib.Core.Bool.{true, false, not};
+ghost use mathlib.Core.Bool.{true, false, not, Bool·beq};
 ghost use Prim.Native.Nat.{ℕ, _-_, _^_, _<_, _≤_};
 ghost use lib.Dec.{ltb};
 ghost use lib.ListN.{length, getD};
 ghost use Rattle.simulation.specs.Sets.{also, without, union, minus, anyBelow, count};
-ghost use Rattle.bits.specs.Word.{members, within};
+ghost use Rattle.bits.specs.Word.{members, within, meets};
 
 // Whether i is a member.
 pub fn has(word: u32, i: u32) -> bool
@@ -53,11 +53,25 @@ pub fn difference(a: u32, b: u32) -> u32
     a & !b
 }
 
+// The members of one of the two and not of the other.
+pub fn differing(a: u32, b: u32) -> u32
+    ensures { λ r. ⌜ members r ≡ (λ i. not (Bool·beq (members a i) (members b i))) ⌝ }
+{
+    a ^ b
+}
+
 // Whether each member of a is one of b.
 pub fn subset(a: u32, b: u32) -> bool
     ensures { λ r. ⌜ r ≡ within 32 a b ⌝ }
 {
     a & b == a
+}
+
+// Whether a and b have a member in common.
+pub fn meet(a: u32, b: u32) -> bool
+    ensures { λ r. ⌜ r ≡ meets a b ⌝ }
+{
+    a & b != 0
 }
 
 // Whether there is no member.
@@ -73,6 +87,14 @@ pub fn lowest(word: u32) -> u32
     ensures { λ r. ⌜ (r < 32) × (members word r ≡ true) × ((i : ℕ) → i < r → members word i ≡ false) ⌝ }
 {
     u32::trailing_zeros(word)
+}
+
+// The set without its lowest member: its next word is known before the member is.
+pub fn without_lowest(word: u32) -> u32
+    requires { ⌜ (word ≡ 0 → ⊥) ⌝ }
+    ensures { λ r. ⌜ ((u : ℕ) → members word u ≡ true → ((i : ℕ) → i < u → members word i ≡ false) → members r ≡ without (members word) u) ⌝ }
+{
+    word & (word - 1)
 }
 
 // How many members there are.

@@ -4,14 +4,21 @@ use native.Mathlib.Nat.{add-zero, add-suc, add-assoc, zero-mul, suc-mul}
 use native.Mathlib.Numerals.{add-one}
 use native.Mathlib.Omega.{arith}
 use mathlib.Core.Path.{_≡_, refl, sym, ap, ap₂, _∙_}
-use mathlib.Core.Bool.{Bool, true, false, not, Bool·beq}
+use mathlib.Core.Logic.{⊎-elim}
+use mathlib.Core.Bool.{Bool, true, false, not, _&&_, Bool·beq, cond, and-true}
 use mathlib.Core.List.{List, [], _∷_, _++_, append-nil, append-assoc}
 use lib.Arith.{digits-mod, digits-div}
+use lib.Bits.{bitAnd}
+use lib.Dec.{ltb, eqb}
 use lib.IntN.{ℤ}
-use lib.ListN.{length, getD, take, drop, set, length-append, length-take, length-drop, take-append-drop}
+use lib.ListN.{length, getD, take, drop, set, length-append, length-take, length-drop, length-set, take-append-drop}
 use lib.Seq.{set-split, take-at, drop-append-add, drop-drop, length-take-le}
-use Rattle.simulation.proofs.Sets.{clash}
+use borrow.Author.Tests.{ltb-true, lt-ltb, eq-eqb, ne-eqb}
+use Rattle.simulation.specs.Sets.{Set, without}
+use Rattle.simulation.proofs.Sets.{and-l, and-r}
+use Rattle.simulation.proofs.Search.{lt-or-le}
 use Rattle.bits.specs.Word.{members}
+use Rattle.bits.proofs.Words.{zero-members, and-members}
 use Rattle.refinement.specs.Tables.{marked}
 use Rattle.listing.specs.Changes.{sizeOf, signed, change, joinTo}
 use Rattle.listing.specs.Placed.{nodeChanges, tableChanges, Placed}
@@ -31,14 +38,6 @@ join-same zero f g h = refl
 join-same (suc n) f g h = ap₂ _++_ (join-same n f g (λ u l. h u (omega arith))) (h n (omega arith))
 
 -- ---- the changes of a node, and of the nodes below v
-
-pub node-none : (v b a : ℕ) → nodeChanges v 0 b a ≡ []
-unfolding nodeChanges joinTo
-node-none v b a = refl
-
-pub node-more : (v n b a : ℕ) → nodeChanges v (n + 1) b a ≡ nodeChanges v n b a ++ change (members b n) (members a n) (sizeOf n v)
-unfolding nodeChanges joinTo
-node-more v n b a = ap (λ (k : ℕ). nodeChanges v k b a) (add-one n)
 
 pub node-same : (v n b : ℕ) → nodeChanges v n b b ≡ []
 unfolding nodeChanges
@@ -66,6 +65,15 @@ module _ (n : ℕ) (bs cs : List ℕ) where
       ∙ ap (λ (l : List ℤ). joinTo (v * n) (λ p. at-pair (p % n) (p / n)) ++ l)
       (join-same n (λ u. at-pair ((v * n + u) % n) ((v * n + u) / n)) (λ u. at-pair u v)
       (λ u l. ap₂ at-pair (digits-mod v l) (digits-div v l))))
+
+  -- tables that agree
+  pub table-same : (v : ℕ) → ((k : ℕ) → k < v → getD bs k 0 ≡ getD cs k 0) → tableChanges n v bs cs ≡ []
+  table-same zero h = table-none
+  table-same (suc v) h =
+      ap (λ (k : ℕ). tableChanges n k bs cs) (sym (add-one v))
+      ∙ table-more v
+      ∙ ap₂ _++_ (table-same v (λ k l. h k (omega arith)))
+      (ap (λ (x : ℕ). nodeChanges v n x (getD cs v 0)) (h v (omega arith)) ∙ node-same v n (getD cs v 0))
 
   pub table-short : (v : ℕ) → length (tableChanges n v bs cs) ≤ v * n
   unfolding tableChanges
@@ -119,28 +127,118 @@ placed-long {A} {room} {list} {now} {at} {next} p h =
       length-drop (at + length list) room,
     )
 
--- ---- one state of a node: its change is written, or there is none
+-- ---- the numbers of a set, listed by f
 
-change-made : (b c : Bool) (n : ℕ) → not (Bool·beq b c) ≡ true → change b c n ≡ signed c n ∷ []
-change-made true true n h = clash h refl
-change-made true false n h = refl
-change-made false true n h = refl
-change-made false false n h = clash h refl
+unfoldable pub listed : ℕ → (ℕ → ℤ) → Set → List ℤ
+listed n f X = joinTo n (λ u. cond (X u) (f u ∷ []) [])
 
-change-kept : (b c : Bool) (n : ℕ) → not (Bool·beq b c) ≡ false → change b c n ≡ []
-change-kept true true n h = refl
-change-kept true false n h = clash refl h
-change-kept false true n h = clash refl h
-change-kept false false n h = refl
+listed-none : (n : ℕ) (f : ℕ → ℤ) (X : Set) → ((u : ℕ) → u < n → X u ≡ false) → listed n f X ≡ []
+unfolding listed
+listed-none n f X h =
+    join-same n (λ u. cond (X u) (f u ∷ []) []) (λ u. []) (λ u l. rw (h u l)) ∙ join-none (λ u. []) (λ u. refl) n
 
-module _ {room now : List ℤ} {at next : ℕ} (v u b a : ℕ) (was is : Bool) (p : was ≡ members b u) (q : is ≡ members a u) where
-  pub node-wrote : (z : ℤ) → at ≤ length room → next < length now → not (Bool·beq was is) ≡ true → z ≡ signed is (sizeOf u v)
-      → Placed room at (nodeChanges v u b a) now next → Placed room at (nodeChanges v (u + 1) b a) (set now next z) (next + 1)
-  node-wrote z h l t e r =
-      rw (node-more, ← p, ← q, change-made was is (sizeOf u v) t, ← e) (placed-append h r (placed-one now next z l))
+-- the lowest number, then the others
+listed-next : (n : ℕ) (f : ℕ → ℤ) (X : Set) (u : ℕ) → u < n → X u ≡ true → ((i : ℕ) → i < u → X i ≡ false)
+    → listed n f X ≡ f u ∷ listed n f (without X u)
+unfolding listed joinTo
+listed-next zero f X u l m h = absurd (omega arith)
+listed-next (suc n) f X u l m h =
+    ⊎-elim
+    (λ (k : u < n).
+    rw (listed-next n f X u k m h, ne-eqb n u (omega arith), and-true))
+    (λ (k : n ≤ u).
+    let e : u ≡ n = omega arith in
+    let here : X n ≡ true = ap X (sym e) ∙ m in
+    rw (
+      e,
+      here,
+      eq-eqb n n refl,
+      listed-none n f X (λ i b. h i (omega arith)),
+      listed-none n f (without X n) (λ i b. rw (h i (omega arith))),
+    ))
+    (lt-or-le u n)
 
-  pub node-passed : not (Bool·beq was is) ≡ false → Placed room at (nodeChanges v u b a) now next → Placed room at (nodeChanges v (u + 1) b a) now next
-  node-passed t r = rw (node-more, ← p, ← q, change-kept was is (sizeOf u v) t, append-nil) r
+-- ---- the changes of a node: those that are left are the states of a word
+
+-- where the marks differ there is a change, by the mark after
+change-is : (b c : Bool) (n : ℕ) → cond (not (Bool·beq b c)) (signed c n ∷ []) [] ≡ change b c n
+change-is true true n = refl
+change-is true false n = refl
+change-is false true n = refl
+change-is false false n = refl
+
+-- the changes of the states in X, at the node v
+abbrev pub left : ℕ → ℕ → ℕ → Set → List ℤ
+left v n a X = listed n (λ u. signed (members a u) (sizeOf u v)) X
+
+-- the changes of the node v in the words b and a, below the state n; those of the states in `rest` are not written yet
+pub record Writing (room : List ℤ) (at v n b a : ℕ) (now : List ℤ) (next rest : ℕ) : Type 0 where
+  pub long : length now ≡ length room
+  pub inside : (u : ℕ) → members rest u ≡ true → u < n
+  pub done : List ℤ
+  pub placed : Placed room at done now next
+  pub whole : done ++ left v n a (members rest) ≡ nodeChanges v n b a
+
+module _ (room : List ℤ) (at v n b a : ℕ) where
+  pub writing-start : (d f : ℕ) → members d ≡ (λ i. not (Bool·beq (members b i) (members a i))) → members f ≡ (λ i. ltb i n)
+      → Writing room at v n b a room at (bitAnd d f)
+  unfolding nodeChanges listed
+  writing-start d f p q = record {
+    long = refl;
+    inside = λ u h. ltb-true u n (ap (λ (X : Set). X u) (sym q) ∙ and-r (members d u) (members f u) (sym (and-members d f u) ∙ h));
+    done = [];
+    placed = placed-start room at;
+    whole = join-same n (λ u. cond (members (bitAnd d f) u) (signed (members a u) (sizeOf u v) ∷ []) [])
+        (λ u. change (members b u) (members a u) (sizeOf u v))
+        (λ u l.
+        ap (λ (t : Bool). cond t (signed (members a u) (sizeOf u v) ∷ []) [])
+        (and-members d f u
+        ∙ ap₂ (λ (X Y : Set). X u && Y u) p q
+        ∙ ap (λ (t : Bool). not (Bool·beq (members b u) (members a u)) && t) (lt-ltb u n l)
+        ∙ and-true (not (Bool·beq (members b u) (members a u))))
+        ∙ change-is (members b u) (members a u) (sizeOf u v));
+  }
+
+  module _ {now : List ℤ} {next rest : ℕ} (w : Writing room at v n b a now next rest) where
+    pub writing-end : rest ≡ 0 → Placed room at (nodeChanges v n b a) now next
+    writing-end e =
+        let none : left v n a (members rest) ≡ [] = listed-none n (λ u. signed (members a u) (sizeOf u v)) (members rest) (λ u l. rw e (zero-members u)) in
+        let all : w .done ≡ nodeChanges v n b a = sym (append-nil (w .done)) ∙ ap (λ (l : List ℤ). w .done ++ l) (sym none) ∙ w .whole in
+        rw (← all) (w .placed)
+
+    -- the lowest of those that are left is written
+    module _ (u : ℕ) (m : members rest u ≡ true) (h : (i : ℕ) → i < u → members rest i ≡ false) where
+      split-left : left v n a (members rest) ≡ signed (members a u) (sizeOf u v) ∷ left v n a (without (members rest) u)
+      split-left = listed-next n (λ u. signed (members a u) (sizeOf u v)) (members rest) u (w .inside u m) m h
+
+      pub writing-room : next < at + n
+      writing-room =
+          omega (
+            arith,
+            w .placed .past,
+            ap length split-left,
+            ap length (w .whole),
+            length-append (w .done) (left v n a (members rest)),
+            node-short v n b a,
+          )
+
+      module _ (rest' : ℕ) (e : members rest' ≡ without (members rest) u) where
+        pub writing-less : length (left v n a (members rest')) < length (left v n a (members rest))
+        writing-less = omega (arith, ap length split-left, ap (λ (X : Set). length (left v n a X)) e)
+
+        pub writing-next : (z : ℤ) → at + n ≤ length room → z ≡ signed (members a u) (sizeOf u v)
+            → Writing room at v n b a (set now next z) (next + 1) rest'
+        writing-next z k q =
+            let inner : next < length now = omega (arith, writing-room, w .long) in
+            record {
+              long = length-set now next z ∙ w .long;
+              inside = λ x t. w .inside x (and-l (members rest x) (not (eqb x u)) (ap (λ (X : Set). X x) (sym e) ∙ t));
+              done = w .done ++ (z ∷ []);
+              placed = placed-append (omega arith) (w .placed) (placed-one now next z inner);
+              whole = append-assoc (w .done) (z ∷ []) (left v n a (members rest'))
+                  ∙ ap (λ (l : List ℤ). w .done ++ l) (ap₂ _∷_ q (ap (left v n a) e) ∙ sym split-left)
+                  ∙ w .whole;
+            }
 
 -- ---- one node: its changes are written, or its word is the same
 

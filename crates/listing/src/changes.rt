@@ -1,9 +1,11 @@
 // Change numbers, built and taken apart, and the change list.
 ghost use mathlib.Core.Path.{_≡_};
 ghost use Prim.Native.Nat.{_+_, _*_, _<_, _≤_};
+ghost use lib.Dec.{eqb};
 ghost use lib.IntN.{natAbs};
 ghost use lib.Signed.{nonNeg};
-ghost use lib.ListN.{length};
+ghost use lib.ListN.{length, getD};
+ghost use Rattle.simulation.specs.Sets.{allBelow};
 ghost use Rattle.session.specs.Limits.{maxChanges, maxNodes, maxStates};
 ghost use Rattle.listing.specs.Changes.{sizeOf, signed};
 ghost use Rattle.listing.specs.Placed.{nodeChanges, tableChanges, Placed};
@@ -51,7 +53,7 @@ pub fn pair_of(change: i32) -> Pair
     }
 }
 
-// Writes the changes of one node from a place of the room on; the place after them.
+// Writes the changes of one node from a place of the room on; the place after them. Only the states that differ are visited.
 pub fn node_changes(
     changes: &mut [i32],
     at: usize,
@@ -64,17 +66,29 @@ pub fn node_changes(
     ensures { λ r. ⌜ Placed (now (changes .entry)) at (nodeChanges node states before after) (now (changes .exit)) r ⌝ }
 {
     let mut next = at;
-    let mut u: u32 = 0;
-    while u < states {
-        let was = bits::has(before, u);
+    let mut rest = bits::differing(before, after) & bits::below(states);
+    while rest != 0 {
+        let u = bits::lowest(rest);
         let is = bits::has(after, u);
-        if was != is {
-            changes[next] = change(u, node, is);
-            next += 1;
-        }
-        u += 1;
+        changes[next] = change(u, node, is);
+        next += 1;
+        rest = bits::without_lowest(rest);
     }
     next
+}
+
+// Whether two tables agree in their first words. The differences are folded, so there is no branch.
+pub fn same_words(before: &[u32], after: &[u32], nodes: usize) -> bool
+    requires { ⌜ (nodes ≤ length (now before)) × (nodes ≤ length (now after)) ⌝ }
+    ensures { λ r. ⌜ r ≡ allBelow nodes (λ v. eqb (getD (now (before .entry)) v 0) (getD (now (after .entry)) v 0)) ⌝ }
+{
+    let mut all: u32 = 0;
+    let mut v = 0;
+    while v < nodes {
+        all = all | (before[v] ^ after[v]);
+        v += 1;
+    }
+    all == 0
 }
 
 // Writes the changes between two tables to the front of the room; how many they are.
@@ -89,6 +103,9 @@ pub fn write_changes(
     requires { ⌜ (nodes ≤ length (now before)) × (nodes ≤ length (now after)) ⌝ }
     ensures { λ r. ⌜ Placed (now (changes .entry)) 0 (tableChanges states nodes (now (before .entry)) (now (after .entry))) (now (changes .exit)) r ⌝ }
 {
+    if same_words(before, after, nodes) {
+        return 0;
+    }
     let mut next = 0;
     let mut v = 0;
     while v < nodes {

@@ -9,11 +9,11 @@ use lib.Dec.{eqb}
 use lib.ListN.{length, getD}
 use lib.Pow.{pow-pos}
 use Rattle.simulation.specs.Sets.{Set}
-use Rattle.simulation.proofs.Sets.{split, or-l, not-make, all-make}
+use Rattle.simulation.proofs.Sets.{clash, split, refuted, or-l, not-make, any-make, all-make}
 use Rattle.simulation.proofs.Edges.{all-same}
 use Rattle.bits.specs.Word.{bit, members}
-use Rattle.bits.proofs.Words.{zero-members}
-use Rattle.bits.proofs.Tests.{not-any, masked}
+use Rattle.bits.proofs.Words.{zero-members, and-again}
+use Rattle.bits.proofs.Tests.{not-any, masked, masked-equal}
 use Rattle.bits.proofs.Gathers.{gathers}
 use Rattle.session.specs.Limits.{wordBits}
 use Rattle.session.specs.Trigger.{Trigger, Graph, agrees, admits}
@@ -25,6 +25,21 @@ use Rattle.session.proofs.Valid.{TriggerFacts}
 pub agrees-masked : (k mask value sample : ℕ) → mask < 2 ^ k → eqb (bitAnd (bitXor value sample) mask) 0 ≡ agrees k mask value sample
 unfolding agrees
 agrees-masked = masked
+
+-- sample & mask is value & mask
+pub agrees-equal : (k mask value sample : ℕ) → mask < 2 ^ k → eqb (bitAnd sample mask) (bitAnd value mask) ≡ agrees k mask value sample
+unfolding agrees
+agrees-equal = masked-equal
+
+-- sample & mask is the value, where this lies inside the mask
+pub agrees-inside : (k mask value sample : ℕ) → mask < 2 ^ k → bitAnd value mask ≡ value
+    → eqb (bitAnd sample mask) value ≡ agrees k mask value sample
+agrees-inside k mask value sample h e = ap (eqb (bitAnd sample mask)) (sym e) ∙ agrees-equal k mask value sample h
+
+-- the part of a value inside the mask admits the same
+agrees-part : (k mask value sample : ℕ) → mask < 2 ^ k → agrees k mask (bitAnd value mask) sample ≡ agrees k mask value sample
+agrees-part k mask value sample h =
+    sym (agrees-inside k mask (bitAnd value mask) sample h (and-again value mask)) ∙ agrees-equal k mask value sample h
 
 pub admits-masked : (t : Trigger) (g : Graph) → TriggerFacts t → (u v : ℕ)
     → admits t g u v ≡ eqb (bitAnd (bitXor (getD (t .values) u 0) (getD (g .samples) v 0)) (getD (t .masks) u 0)) 0
@@ -74,3 +89,25 @@ sparse-stray samples marks mask value all u e =
     ∙ all-same (length marks) (λ v. not (stray samples marks mask value v u))
     (λ v. not (members (getD marks v 0) u) || agrees wordBits mask value (getD samples v 0))
     (λ v l. not-and (members (getD marks v 0) u) (agrees wordBits mask value (getD samples v 0)))
+
+-- with the part of the value inside the mask
+pub sparse-part : (samples marks : List ℕ) (mask value u : ℕ) → mask < 2 ^ wordBits
+    → sparse samples marks mask (bitAnd value mask) u ≡ sparse samples marks mask value u
+unfolding sparse
+sparse-part samples marks mask value u h =
+    all-same (length marks) (λ v. not (members (getD marks v 0) u) || agrees wordBits mask (bitAnd value mask) (getD samples v 0))
+    (λ v. not (members (getD marks v 0) u) || agrees wordBits mask value (getD samples v 0))
+    (λ v l. ap (λ (b : Bool). not (members (getD marks v 0) u) || b) (agrees-part wordBits mask value (getD samples v 0) h))
+
+-- and so are those of a state that has none at all
+pub sparse-none : (samples marks : List ℕ) (mask value used u : ℕ) → members used ≡ gathers (length marks) (λ v. members (getD marks v 0))
+    → members used u ≡ false
+    → sparse samples marks mask value u ≡ true
+unfolding sparse
+sparse-none samples marks mask value used u e h =
+    all-make (length marks) (λ v. not (members (getD marks v 0) u) || agrees wordBits mask value (getD samples v 0))
+    (λ v l.
+    or-l (agrees wordBits mask value (getD samples v 0))
+    (not-make
+    (refuted (members (getD marks v 0) u)
+    (λ m. clash (ap (λ (X : Set). X u) e ∙ any-make (length marks) (λ v. members (getD marks v 0) u) v l m) h))))

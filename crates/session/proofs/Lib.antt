@@ -7,4 +7,5 @@ pub mod Admission
 pub mod Tested
 pub mod Fills
 pub mod Folds
+pub mod Named
 pub mod Stores

@@ -1,23 +1,24 @@
 -- The layout test of a memory that is long enough is the three tests of its parts.
 use Prim.Native.Nat.{ℕ, _+_, _-_, _/_, _%_, _^_, _<_, _≤_}
-use native.Mathlib.Nat.{add-assoc}
+use native.Mathlib.Nat.{add-assoc, lt-of-lt-of-le}
 use native.Mathlib.Omega.{arith}
 use mathlib.Core.Path.{_≡_, refl, sym, ap, subst, _∙_}
 use mathlib.Core.Logic.{⊎-elim}
 use mathlib.Core.Bool.{Bool, true, false, not, _&&_, _||_, cond}
 use mathlib.Core.List.{List, _∷_, _++_, append-assoc}
-use lib.Dec.{ltb}
-use lib.ListN.{length, getD, drop, length-drop, take-append-drop, List·getD-eq-default}
-use lib.Pow.{pow-pos}
-use lib.Seq.{length-take-le, getD-take, getD-drop, drop-drop, drop-cons, ext-getD}
+use lib.Dec.{ltb, eqb}
+use lib.ListN.{length, getD, take, drop, length-drop, take-append-drop, List·getD-eq-default}
+use lib.Pow.{pow-pos, pow-mono}
+use lib.Seq.{length-take-le, getD-take, getD-drop, take-take, take-add, drop-at, drop-drop, drop-cons, ext-getD}
 use borrow.Author.Tests.{ltb-true, lt-ltb, le-ltb, le-leb}
 use Rattle.simulation.specs.Sets.{Set, allBelow}
 use Rattle.simulation.specs.Ordered.{ascends}
 use Rattle.simulation.proofs.Sets.{same, refuted, and-make, and-l, and-r, implies-make, implies-take, all-make, all-take}
 use Rattle.simulation.proofs.Search.{lt-or-le}
 use Rattle.simulation.proofs.Ordered.{rising-make, elem-at}
-use Rattle.bits.specs.Word.{members, word}
+use Rattle.bits.specs.Word.{members, word, within}
 use Rattle.bits.proofs.Words.{zero-members, word-below, word-same, members-word}
+use Rattle.bits.proofs.Gathers.{gathers}
 use Rattle.session.specs.Limits.{
   maxStates,
   maxNodes,
@@ -48,7 +49,7 @@ use Rattle.session.specs.Layout.{
   inLayout,
 }
 use Rattle.session.specs.Tests.{fits, allNamed, sparse, triggerTest, graphTest, marksTest}
-use Rattle.session.proofs.Tables.{length-table, getD-table, length-section, getD-section, below-take, below-make}
+use Rattle.session.proofs.Tables.{length-table, getD-table, length-section, getD-section, below-take, below-make, fits-gathered}
 use Rattle.session.proofs.Valid.{TriggerFacts, GraphFacts, graph-facts, marks-facts, marks-valid}
 use Rattle.session.proofs.Image.{mask-word, value-word, link-word, sample-word, edge-word, mark-word}
 use Rattle.session.proofs.Decoded.{marks-take, layout-image, LayoutFacts, layout-whole, layout-facts}
@@ -224,8 +225,8 @@ module _ (xs : List ℕ) where
       graph-take h =
           let a = fits wordBits m (part xs samplesAt maxNodes) in
           let b = below 1 (part xs (edgesAt + e) (maxEdges - e)) in
-          let c = allNamed m (part xs edgesAt e) in
-          let d = ascends (part xs edgesAt e) in
+          let c = ascends (part xs edgesAt e) in
+          let d = allNamed m (part xs edgesAt e) in
           let r = and-r a (b && (c && d)) h in
           let s = and-r b (c && d) r in
           record {
@@ -235,8 +236,8 @@ module _ (xs : List ℕ) where
                 below-part xs (edgesAt + e) (maxEdges - e) 1 (omega arith) (and-l b (c && d) r) (i - e) (omega arith) in
                 let y : getD xs (edgesAt + i) 0 < 1 = subst (λ (j : ℕ). getD xs j 0 < 1) (omega arith) z in
                 omega arith;
-            named = and-l c d s;
-            ascend = and-r c d s;
+            named = and-r c d s;
+            ascend = and-l c d s;
           }
 
       graph-make : GraphWords m e → graphTest xs m e ≡ true
@@ -246,7 +247,7 @@ module _ (xs : List ℕ) where
           (and-make
           (part-below xs (edgesAt + e) (maxEdges - e) 1 (omega arith)
           (λ i l. rw (add-assoc edgesAt e i, f .rest (e + i) (omega arith) (omega arith)) (omega arith)))
-          (and-make (f .named) (f .ascend)))
+          (and-make (f .ascend) (f .named)))
 
     module _ (n m : ℕ) (few : m ≤ maxNodes) where
       abbrev marks : List ℕ
@@ -290,11 +291,50 @@ module _ (xs : List ℕ) where
           and-make (fits-make xs marksAt maxNodes n m (omega arith) (f .words))
           (all-make n row (λ u l. row-make u (λ v c d. f .kept u v l c d)))
 
--- where the test of the trigger passes, its masks are words
+-- where the tests of trigger and graph pass, masks and samples are words; marks are, where their section fits
 pub test-masks : (xs : List ℕ) (n : ℕ) → triggerTest xs n ≡ true → n ≤ maxStates → fixedSize ≤ length xs
     → below (2 ^ wordBits) (part xs masksAt n) ≡ true
 test-masks xs n h few long =
     fits-below xs masksAt maxStates wordBits n (omega arith) few (trigger-take xs long n h .masks)
+
+pub test-samples : (xs : List ℕ) (m e : ℕ) → graphTest xs m e ≡ true → m ≤ maxNodes → e ≤ maxEdges → fixedSize ≤ length xs
+    → below (2 ^ wordBits) (part xs samplesAt m) ≡ true
+test-samples xs m e h few edges long =
+    fits-below xs samplesAt maxNodes wordBits m (omega arith) few (graph-take xs long m e edges h .samples)
+
+pub test-marks : (xs : List ℕ) (n m : ℕ) → fits n m (part xs marksAt maxNodes) ≡ true → n ≤ maxStates → m ≤ maxNodes → fixedSize ≤ length xs
+    → below (2 ^ wordBits) (part xs marksAt m) ≡ true
+test-marks xs n m h few nodes long =
+    part-below xs marksAt m (2 ^ wordBits) (omega arith)
+    (λ i l.
+    lt-of-lt-of-le (fits-take xs marksAt maxNodes n m (omega arith) h .small i (omega arith) l) (pow-mono few))
+
+-- the n words from p on, whose first m are tested together, and the others
+module _ (xs : List ℕ) (p n m : ℕ) (h : m ≤ n) (long : p + n ≤ length xs) where
+  part-front : take m (part xs p n) ≡ part xs p (p + m - p)
+  part-front =
+      let e : m ≡ p + m - p = omega arith in
+      take-take m n (drop p xs) h ∙ ap (part xs p) e
+
+  part-rest : drop m (part xs p n) ≡ part xs (p + m) (p + n - (p + m))
+  part-rest =
+      let ys : List ℕ = drop p xs in
+      let e : n ≡ m + (n - m) = omega arith in
+      let d : n - m ≡ p + n - (p + m) = omega arith in
+      ap (λ (k : ℕ). drop m (take k ys)) e
+      ∙ ap (drop m) (take-add m (n - m) ys)
+      ∙ drop-at (take m ys) (take (n - m) (drop m ys)) m (length-take-le m ys (omega (arith, length-drop p xs)))
+      ∙ ap (take (n - m)) (drop-drop m p xs)
+      ∙ ap (part xs (p + m)) d
+
+  pub fits-unions : (k inside unused : ℕ) → inside < 2 ^ 32
+      → members inside ≡ gathers (length (part xs p (p + m - p))) (λ i. members (getD (part xs p (p + m - p)) i 0))
+      → members unused ≡ gathers (length (part xs (p + m) (p + n - (p + m)))) (λ i. members (getD (part xs (p + m) (p + n - (p + m))) i 0))
+      → (within 32 inside (2 ^ k - 1) && eqb unused 0) ≡ fits k m (part xs p n)
+  fits-unions k inside unused l e d =
+      fits-gathered 32 k m inside unused (part xs p n) (omega (arith, part-length xs p n long)) l
+      (subst (λ (ys : List ℕ). members inside ≡ gathers (length ys) (λ i. members (getD ys i 0))) (sym part-front) e)
+      (subst (λ (ys : List ℕ). members unused ≡ gathers (length ys) (λ i. members (getD ys i 0))) (sym part-rest) d)
 
 -- ---- edges that name nodes, and the word of a node's marks
 

@@ -37,7 +37,7 @@ triggerTest xs n =
 unfoldable pub graphTest : List ℕ → ℕ → ℕ → Bool
 graphTest xs m e =
     fits wordBits m (part xs samplesAt maxNodes)
-    && (below 1 (part xs (edgesAt + e) (maxEdges - e)) && (allNamed m (part xs edgesAt e) && ascends (part xs edgesAt e)))
+    && (below 1 (part xs (edgesAt + e) (maxEdges - e)) && (ascends (part xs edgesAt e) && allNamed m (part xs edgesAt e)))
 
 unfoldable pub marksTest : List ℕ → ℕ → ℕ → Bool
 marksTest xs n m =

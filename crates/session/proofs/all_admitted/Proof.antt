@@ -1,101 +1,135 @@
--- `session::all_admitted` meets its contract: a fault is noted where a state has a mark that is not admitted.
-use Prim.Native.Nat.{ℕ, _-_, _^_}
+-- `session::all_admitted` meets its contract: the halves that are compared hold the samples and the marks.
+use Prim.Native.Nat.{ℕ}
 use borrow.Author.Needs.{needs}
 use native.Mathlib.Omega.{arith}
-use mathlib.Core.Path.{_≡_, sym, ap, _∙_}
-use mathlib.Core.Bool.{not}
-use mathlib.Core.Logic.{⊎-elim}
-use mathlib.Core.List.{List}
-use lib.ListN.{length, getD}
-use Rattle.simulation.specs.Sets.{Set}
+use mathlib.Core.Path.{_≡_, sym, ap, ap₂, subst, refl, _∙_}
+use mathlib.Core.List.{List, _++_}
+use lib.ListN.{length, getD, take, drop, replicate}
+use lib.Seq.{length-take-le}
+use Rattle.simulation.specs.Sets.{Set, allBelow}
+use Rattle.simulation.proofs.Sets.{all-make}
+use Rattle.bits.specs.Word.{members}
+use Rattle.bits.proofs.Gathers.{gathers}
 use Rattle.session.specs.Tests.{sparse}
-use Rattle.session.proofs.Tables.{below-take}
-use Rattle.session.proofs.Admission.{sparse-stray}
-use Rattle.session.proofs.Folds.{Folded, fold-start, fold-pass, fold-fault, fold-end}
+use Rattle.bits.proofs.Words.{zero-members}
+use Rattle.session.proofs.Admission.{sparse-none}
+use Rattle.session.proofs.Fills.{front-read, front-inside}
 use Rattle.session.proofs.all_admitted.Statement.{statement}
 use Rattle.session.proofs.all_admitted.Tie as tie
 
--- the marks of the state u are admitted
-abbrev admitted : List ℕ → List ℕ → List ℕ → List ℕ → Set
-admitted masks values samples marks u = sparse samples marks (getD masks u 0) (getD values u 0) u
+abbrev start : tie.After-shared-slice-known4 → tie.Start
+start c = c .before .before .before .before
 
-abbrev Inv-loop : tie.InvT-loop
-Inv-loop masks values samples marks faults₀ u₀ faults u = Folded (admitted masks values samples marks) (length masks) faults u
+abbrev nodes : tie.After-shared-slice-known4 → ℕ
+nodes c = length (start c .args .marks .now)
 
-abbrev μ-loop : tie.MeasureT-loop
-μ-loop masks values samples marks faults₀ u₀ faults u = length masks - u
+abbrev zeros : List ℕ
+zeros = replicate 512 0
 
-loop-holds : tie.Need-loop-holds Inv-loop μ-loop
-loop-holds c =
-    let a = c .before .before .before .before .args in
-    fold-start (admitted (a .masks .now) (a .values .now) (a .samples .now) (a .marks .now)) (length (a .masks .now))
+-- the array has room for them
+room : (c : tie.After-shared-slice-known4) → nodes c ≡ length (take (nodes c) zeros)
+room c = sym (length-take-le (nodes c) zeros (start c .pre .1 .1 .0 .2))
 
-mul-strays : tie.Need-mul-strays Inv-loop μ-loop
-mul-strays c = search needs
+array-borrow-prefix-words : tie.Need-array-borrow-prefix-words
+array-borrow-prefix-words c = search needs
 
-shared-slice-read-strays : tie.Need-shared-slice-read-strays Inv-loop μ-loop
-shared-slice-read-strays c = search needs
+slice-aggregate-narrow : tie.Need-slice-aggregate-narrow
+slice-aggregate-narrow c = room (c .before .before)
 
-mul-strays-2 : tie.Need-mul-strays-2 Inv-loop μ-loop
-mul-strays-2 c = search needs
+narrow-requires : tie.Need-narrow-requires
+narrow-requires c κs = let s = start (c .before .before) in (s .pre .0 .0 ∙ room (c .before .before), s .pre .1 .1 .0 .0)
 
-shared-slice-read-strays-2 : tie.Need-shared-slice-read-strays-2 Inv-loop μ-loop
-shared-slice-read-strays-2 c = search needs
+array-borrow-prefix-signs : tie.Need-array-borrow-prefix-signs
+array-borrow-prefix-signs c = search needs
 
-strays-requires : tie.Need-strays-requires Inv-loop μ-loop
-strays-requires c κs =
-    let s = c .before .before .before .before .before .before .before .before in
-    (s .pre .0 .0, below-take (2 ^ 16) (s .args .masks .now) (s .pre .1) (c .before .before .before .loop .u) (omega arith))
+slice-aggregate-narrow-2 : tie.Need-slice-aggregate-narrow-2
+slice-aggregate-narrow-2 c = room (c .before .before .before .before .before)
 
-cast-has : tie.Need-cast-has Inv-loop μ-loop
-cast-has c = search needs
+narrow-requires-2 : tie.Need-narrow-requires-2
+narrow-requires-2 c κs = let g = c .before .before .before .before .before in (room g, start g .pre .1 .1 .0 .1)
 
-has-requires : tie.Need-has-requires Inv-loop μ-loop
-has-requires c κs = search needs
+-- what is read of the two arrays
+samples-read : (c : tie.After-narrow)
+    → let g = c .before .before .before in
+    take (nodes g) (c .narrow .last .0 ++ drop (nodes g) zeros) ≡ start g .args .samples .now
+samples-read c =
+    let g = c .before .before .before in
+    front-read zeros (c .narrow .last .0) (start g .args .samples .now) (nodes g) (c .narrow .ensures) (start g .pre .0 .0)
 
-add-u : tie.Need-add-u Inv-loop μ-loop
-add-u c = search needs
+marks-read : (c : tie.After-narrow2)
+    → let g = c .before .before .before .before .before .before in
+    take (nodes g) (c .narrow2 .last .0 ++ drop (nodes g) zeros) ≡ start g .args .marks .now
+marks-read c =
+    let g = c .before .before .before .before .before .before in
+    front-read zeros (c .narrow2 .last .0) (start g .args .marks .now) (nodes g) (c .narrow2 .ensures) refl
 
-loop-less : tie.Need-loop-less Inv-loop μ-loop
-loop-less c = search needs
+array-share-prefix-words : tie.Need-array-share-prefix-words
+array-share-prefix-words c =
+    let n = c .before .before .before .before in
+    let g = n .before .before .before in
+    front-inside (n .narrow .last .0) (start g .args .samples .now) (drop (nodes g) zeros) (nodes g) (n .narrow .ensures) (start g .pre .0 .0)
 
-loop-again : tie.Need-loop-again Inv-loop μ-loop
-loop-again c =
-    let a = c .before .before .before .before .before .before .before .before .before .before .before .args in
-    let l = c .before .before .before .before .before .before .loop in
-    let P = admitted (a .masks .now) (a .values .now) (a .samples .now) (a .marks .now) in
-    let n = length (a .masks .now) in
-    let tested : not (c .before .has .result) ≡ P (l .u) =
-    ap not (c .before .has .ensures)
-    ∙ sparse-stray (a .samples .now) (a .marks .now) (getD (a .masks .now) (l .u) 0) (getD (a .values .now) (l .u) 0)
-    (c .before .before .strays .result) (l .u) (c .before .before .strays .ensures) in
-    ⊎-elim
-    (λ w. rw (w .1) (fold-fault P n (l .u) (omega arith) (sym tested ∙ ap not (w .0 .taken))))
-    (λ w. rw (w .1) (fold-pass P n (l .faults) (l .u) (l .inv) (omega arith) (sym tested ∙ ap not (w .0 .left))))
-    (c .if1 .came)
+slice-aggregate-all-sparse : tie.Need-slice-aggregate-all-sparse
+slice-aggregate-all-sparse c =
+    let n = c .before .before .before .before .before in
+    sym (ap length (samples-read n) ∙ start (n .before .before .before) .pre .0 .0)
 
-returns : tie.Need-returns Inv-loop μ-loop
+array-share-prefix-signs : tie.Need-array-share-prefix-signs
+array-share-prefix-signs c =
+    let m = c .before .before in
+    let g = m .before .before .before .before .before .before in
+    front-inside (m .narrow2 .last .0) (start g .args .marks .now) (drop (nodes g) zeros) (nodes g) (m .narrow2 .ensures) refl
+
+slice-aggregate-all-sparse-2 : tie.Need-slice-aggregate-all-sparse-2
+slice-aggregate-all-sparse-2 c = sym (ap length (marks-read (c .before .before .before)))
+
+all-sparse-requires : tie.Need-all-sparse-requires
+all-sparse-requires c κs =
+    let m = c .before .before .before in
+    let n = m .before .before .before in
+    let g = n .before .before .before in
+    let s = start g in (
+      (ap length (samples-read n) ∙ s .pre .0 .0 ∙ sym (ap length (marks-read m)), s .pre .0 .1, s .pre .0 .2),
+      (
+        s .pre .1 .0,
+        subst (λ (ms : List ℕ). members (s .args .used) ≡ gathers (length ms) (λ v. members (getD ms v 0))) (sym (marks-read m)) (s .pre .1 .1 .1),
+      ),
+    )
+
+returns : tie.Need-returns
 returns c =
-    let a = c .before .before .before .before .before .before .args in
-    let l = c .before .loop in
-    fold-end (admitted (a .masks .now) (a .values .now) (a .samples .now) (a .marks .now)) (length (a .masks .now)) (l .faults) (l .u)
-    (l .inv) (omega arith)
+    let g = c .before in
+    let a = start g .args in
+    let test : Set = λ u. sparse (a .samples .now) (a .marks .now) (getD (a .masks .now) u 0) (getD (a .values .now) u 0) u in
+    sym
+    (all-make (length (a .masks .now)) test
+    (λ u l.
+    sparse-none (a .samples .now) (a .marks .now) (getD (a .masks .now) u 0) (getD (a .values .now) u 0) (a .used) u (start g .pre .1 .1 .1)
+    (ap (λ (w : ℕ). members w u) (c .if1 .taken) ∙ zero-members u)))
+
+returns-2 : tie.Need-returns-2
+returns-2 c =
+    let m = c .before .before .before .before in
+    let n = m .before .before .before in
+    let a = start (n .before .before .before) .args in
+    c .all-sparse .ensures
+    ∙ ap₂ (λ (ss ms : List ℕ). allBelow (length (a .masks .now)) (λ u. sparse ss ms (getD (a .masks .now) u 0) (getD (a .values .now) u 0) u))
+    (samples-read n) (marks-read m)
 
 pub all-admitted-spec : {M : Type 1} → statement M
 all-admitted-spec =
     tie.close
     (tie.spec
-    Inv-loop
-    μ-loop
-    loop-holds
-    mul-strays
-    shared-slice-read-strays
-    mul-strays-2
-    shared-slice-read-strays-2
-    strays-requires
-    cast-has
-    has-requires
-    add-u
-    loop-less
-    loop-again
-    returns)
+    returns
+    array-borrow-prefix-words
+    slice-aggregate-narrow
+    narrow-requires
+    array-borrow-prefix-signs
+    slice-aggregate-narrow-2
+    narrow-requires-2
+    array-share-prefix-words
+    slice-aggregate-all-sparse
+    array-share-prefix-signs
+    slice-aggregate-all-sparse-2
+    all-sparse-requires
+    returns-2)

@@ -1,45 +1,49 @@
--- `session::all_named` meets its contract: a fault is noted where an edge's start or end is no node.
+-- `session::all_named` meets its contract: the last start is tested, and a fault is noted where an edge's end is no node.
 use Prim.Native.Nat.{ℕ, _-_, _/_, _%_, _≤_}
-use borrow.Author.Needs.{needs}
-use borrow.Author.Tests.{lt-ltb, le-ltb, ne-eqb}
-use native.Mathlib.Omega.{arith}
-use mathlib.Core.Path.{_≡_, sym, _∙_}
-use mathlib.Core.Bool.{_&&_}
-use mathlib.Core.Logic.{⊎-elim}
-use mathlib.Core.List.{List}
-use lib.Dec.{ltb, eqb}
-use lib.ListN.{length, getD}
-use Rattle.simulation.specs.Sets.{Set}
-use Rattle.simulation.proofs.Sets.{all-both}
-use Rattle.session.specs.Tests.{allNamed}
 use Rattle.session.proofs.Folds.{Folded, fold-start, fold-pass, fold-fault, fold-end}
+use Rattle.session.proofs.Named.{ending, none-named, start-fails, ends-decide}
+use Rattle.simulation.specs.Sets.{Set}
+use borrow.Author.Needs.{needs}
+use borrow.Author.Tests.{lt-ltb, le-ltb}
+use lib.ListN.{length, getD}
+use mathlib.Core.Logic.{⊎-elim}
+use mathlib.Core.Path.{_≡_, sym, _∙_}
+use native.Mathlib.Omega.{arith}
 use Rattle.session.proofs.all_named.Statement.{statement}
 use Rattle.session.proofs.all_named.Tie as tie
 
--- the start and the end of an edge are nodes
-abbrev starting : List ℕ → ℕ → Set
-starting edges nodes k = ltb (getD edges k 0 / 512) nodes
-
-abbrev ending : List ℕ → ℕ → Set
-ending edges nodes k = ltb (getD edges k 0 % 512) nodes
-
 abbrev Inv-loop : tie.InvT-loop
-Inv-loop edges nodes starts₀ ends₀ k₀ starts ends k =
-    Folded (starting edges nodes) (length edges) starts k × Folded (ending edges nodes) (length edges) ends k
+Inv-loop edges nodes count last faults₀ k₀ faults k = Folded (ending nodes edges) (length edges) faults k
 
 abbrev μ-loop : tie.MeasureT-loop
-μ-loop edges nodes starts₀ ends₀ k₀ starts ends k = length edges - k
+μ-loop edges nodes count last faults₀ k₀ faults k = length edges - k
+
+returns : tie.Need-returns Inv-loop μ-loop
+returns c = let a = c .before .args in none-named (a .nodes) (a .edges .now) (c .if1 .taken)
+
+sub-if2 : tie.Need-sub-if2 Inv-loop μ-loop
+sub-if2 c = search needs
+
+mul-if2 : tie.Need-mul-if2 Inv-loop μ-loop
+mul-if2 c = search needs
+
+shared-slice-read-if2 : tie.Need-shared-slice-read-if2 Inv-loop μ-loop
+shared-slice-read-if2 c = search needs
+
+returns-2 : tie.Need-returns-2 Inv-loop μ-loop
+returns-2 c = let a = c .before .before .before .args in start-fails (a .nodes) (a .edges .now) (length (a .edges .now) - 1) (omega arith) (c .if2 .taken)
+
+sub-last : tie.Need-sub-last Inv-loop μ-loop
+sub-last c = search needs
 
 loop-holds : tie.Need-loop-holds Inv-loop μ-loop
-loop-holds c =
-    let a = c .args in
-    (fold-start (starting (a .edges .now) (a .nodes)) (length (a .edges .now)), fold-start (ending (a .edges .now) (a .nodes)) (length (a .edges .now)))
+loop-holds c = let a = c .before .before .before .args in fold-start (ending (a .nodes) (a .edges .now)) (length (a .edges .now))
 
-mul-edge : tie.Need-mul-edge Inv-loop μ-loop
-mul-edge c = search needs
+mul-if3 : tie.Need-mul-if3 Inv-loop μ-loop
+mul-if3 c = search needs
 
-shared-slice-read-edge : tie.Need-shared-slice-read-edge Inv-loop μ-loop
-shared-slice-read-edge c = search needs
+shared-slice-read-if3 : tie.Need-shared-slice-read-if3 Inv-loop μ-loop
+shared-slice-read-if3 c = search needs
 
 add-k : tie.Need-add-k Inv-loop μ-loop
 add-k c = search needs
@@ -49,43 +53,23 @@ loop-less c = search needs
 
 loop-again : tie.Need-loop-again Inv-loop μ-loop
 loop-again c =
-    let a = c .before .before .before .before .before .args in
-    let l = c .before .before .before .before .loop in
+    let a = c .before .before .before .before .before .before .before .args in
+    let l = c .before .before .before .loop in
     let n = length (a .edges .now) in
     let e = getD (a .edges .now) (l .k) 0 in
-    let S : Set = starting (a .edges .now) (a .nodes) in
-    let E : Set = ending (a .edges .now) (a .nodes) in (
-      ⊎-elim
-          (λ w. rw (w .1) (fold-fault S n (l .k) (omega arith) (le-ltb (e / 512) (a .nodes) (w .0 .taken))))
-          (λ w. rw (w .1) (fold-pass S n (l .starts) (l .k) (l .inv .0) (omega arith) (lt-ltb (e / 512) (a .nodes) (w .0 .left))))
-          (c .before .if1 .came),
-      ⊎-elim
-          (λ w. rw (w .1) (fold-fault E n (l .k) (omega arith) (le-ltb (e % 512) (a .nodes) (w .0 .taken))))
-          (λ w. rw (w .1) (fold-pass E n (l .ends) (l .k) (l .inv .1) (omega arith) (lt-ltb (e % 512) (a .nodes) (w .0 .left))))
-          (c .if2 .came),
-    )
+    let E : Set = ending (a .nodes) (a .edges .now) in
+    ⊎-elim
+    (λ w. rw (w .1) (fold-fault E n (l .k) (omega arith) (le-ltb (e % 512) (a .nodes) (omega (arith, w .0 .taken)))))
+    (λ w. rw (w .1) (fold-pass E n (l .faults) (l .k) (l .inv) (omega arith) (lt-ltb (e % 512) (a .nodes) (omega (arith, w .0 .left)))))
+    (c .if3 .came)
 
--- both folds at the end
-folds : (edges : List ℕ) (nodes starts ends k : ℕ) → Folded (starting edges nodes) (length edges) starts k
-    → Folded (ending edges nodes) (length edges) ends k → length edges ≤ k → (eqb starts 0 && eqb ends 0) ≡ allNamed nodes edges
-unfolding allNamed
-folds edges nodes starts ends k f g l =
-    let S : Set = starting edges nodes in
-    let E : Set = ending edges nodes in
-    rw (fold-end S (length edges) starts k f l, fold-end E (length edges) ends k g l) (sym (all-both (length edges) S E))
-
-returns : tie.Need-returns Inv-loop μ-loop
-returns c =
-    let a = c .before .before .before .args in
-    let l = c .before .before .loop in
-    rw (c .if3 .taken) at (folds (a .edges .now) (a .nodes) (l .starts) (l .ends) (l .k) (l .inv .0) (l .inv .1) (omega arith))
-
-returns-2 : tie.Need-returns-2 Inv-loop μ-loop
-returns-2 c =
-    let a = c .before .before .before .args in
-    let l = c .before .before .loop in
-    let off = ne-eqb (l .starts) 0 (c .if3 .left) in
-    off ∙ rw off at (folds (a .edges .now) (a .nodes) (l .starts) (l .ends) (l .k) (l .inv .0) (l .inv .1) (omega arith))
+returns-3 : tie.Need-returns-3 Inv-loop μ-loop
+returns-3 c =
+    let s = c .before .before .before .before .before in
+    let a = s .args in
+    let l = c .before .loop in
+    fold-end (ending (a .nodes) (a .edges .now)) (length (a .edges .now)) (l .faults) (l .k) (l .inv) (omega arith)
+    ∙ ends-decide (a .nodes) (a .edges .now) (s .pre) (omega (arith, c .before .before .if2 .left))
 
 pub all-named-spec : {M : Type 1} → statement M
 all-named-spec =
@@ -93,11 +77,16 @@ all-named-spec =
     (tie.spec
     Inv-loop
     μ-loop
+    returns
+    sub-if2
+    mul-if2
+    shared-slice-read-if2
+    returns-2
+    sub-last
     loop-holds
-    mul-edge
-    shared-slice-read-edge
+    mul-if3
+    shared-slice-read-if3
     add-k
     loop-less
     loop-again
-    returns
-    returns-2)
+    returns-3)

@@ -1,84 +1,81 @@
--- `session::fill_words` meets its contract: the places before i hold the words of the source.
-use Prim.Native.Nat.{ℕ, _+_, _-_}
+-- `session::fill_words` meets its contract: a source that is shorter is followed by zeros, and of one that is not its front is copied.
 use borrow.Author.Needs.{needs}
 use native.Mathlib.Omega.{arith}
-use mathlib.Core.Logic.{⊎-elim}
-use mathlib.Core.Path.{_∙_, sym, subst}
-use mathlib.Core.List.{List}
-use lib.ListN.{length, getD}
-use Rattle.session.specs.Layout.{section}
-use Rattle.session.proofs.Fills.{Filled, fill-start, fill-step, fill-kept, fill-end}
+use mathlib.Core.Path.{_∙_, ap, refl, sym}
+use lib.ListN.{length}
+use lib.Seq.{length-take-le}
+use Rattle.session.proofs.Tables.{section-shorter}
+use Rattle.session.proofs.Fills.{fill-parts}
 use Rattle.session.proofs.fill_words.Statement.{statement}
 use Rattle.session.proofs.fill_words.Tie as tie
 
-abbrev Inv-loop : tie.InvT-loop
-Inv-loop place₀ source i₀ place i = Filled (λ j. getD source j 0) place₀ place i
+slice-relend-prefix-copy-words : tie.Need-slice-relend-prefix-copy-words
+slice-relend-prefix-copy-words c = search needs
 
-abbrev μ-loop : tie.MeasureT-loop
-μ-loop place₀ source i₀ place i = length place₀ - i
+slice-aggregate-copy-words : tie.Need-slice-aggregate-copy-words
+slice-aggregate-copy-words c =
+    let a = c .before .before .before .before .args in sym (length-take-le (length (a .source .now)) (a .place .now) (omega arith))
 
-loop-holds : tie.Need-loop-holds Inv-loop μ-loop
-loop-holds c = let a = c .before .before .args in fill-start (λ j. getD (a .source .now) j 0) (a .place .now)
+copy-words-requires : tie.Need-copy-words-requires
+copy-words-requires c κs =
+    let a = c .before .before .before .before .args in sym (length-take-le (length (a .source .now)) (a .place .now) (omega arith))
 
-word-at-requires : tie.Need-word-at-requires Inv-loop μ-loop
-word-at-requires c κs = search needs
+mul-clear : tie.Need-mul-clear
+mul-clear c = search needs
 
-mul-if1 : tie.Need-mul-if1 Inv-loop μ-loop
-mul-if1 c = search needs
+sub-clear : tie.Need-sub-clear
+sub-clear c = search needs
 
-slice-read-if1 : tie.Need-slice-read-if1 Inv-loop μ-loop
-slice-read-if1 c = search needs
+part-clear-start : tie.Need-part-clear-start
+part-clear-start c = search needs
 
-mul-place : tie.Need-mul-place Inv-loop μ-loop
-mul-place c = search needs
+part-clear-end : tie.Need-part-clear-end
+part-clear-end c = search needs
 
-slice-write-place : tie.Need-slice-write-place Inv-loop μ-loop
-slice-write-place c = search needs
+clear-requires : tie.Need-clear-requires
+clear-requires c κs = search needs
 
-add-i : tie.Need-add-i Inv-loop μ-loop
-add-i c = search needs
+slice-aggregate-copy-words-2 : tie.Need-slice-aggregate-copy-words-2
+slice-aggregate-copy-words-2 c =
+    let a = c .before .before .before .before .before .args in sym (length-take-le (length (a .place .now)) (a .source .now) (omega arith))
 
-loop-less : tie.Need-loop-less Inv-loop μ-loop
-loop-less c = search needs
+copy-words-requires-2 : tie.Need-copy-words-requires-2
+copy-words-requires-2 c κs =
+    let a = c .before .before .before .before .before .args in length-take-le (length (a .place .now)) (a .source .now) (omega arith)
 
-loop-again : tie.Need-loop-again Inv-loop μ-loop
-loop-again c =
-    let a = c .before .before .before .before .before .before .before .args in
-    let l = c .before .before .before .before .loop in
-    let f : ℕ → ℕ = λ j. getD (a .source .now) j 0 in
-    ⊎-elim
-    (λ w.
-    subst (λ (xs : List ℕ). Filled f (a .place .now) xs (l .i + 1)) (sym (w .1))
-    (fill-step f (a .place .now) (l .place) (l .i) (c .before .before .word-at .result) (l .inv) (omega arith) (c .before .before .word-at .ensures)))
-    (λ w.
-    subst (λ (xs : List ℕ). Filled f (a .place .now) xs (l .i + 1)) (sym (w .1))
-    (fill-kept f (a .place .now) (l .place) (l .i) (l .inv) (omega arith) (w .0 .left ∙ c .before .before .word-at .ensures)))
-    (c .if1 .came)
-
-same-length : tie.Need-same-length Inv-loop μ-loop
+same-length : tie.Need-same-length
 same-length c = search needs
 
-returns : tie.Need-returns Inv-loop μ-loop
-unfolding section
+returns : tie.Need-returns
 returns c =
-    let a = c .before .before .before .before .args in
-    let l = c .before .loop in
-    fill-end (λ j. getD (a .source .now) j 0) (a .place .now) (l .place) (l .i) (l .inv) (omega arith)
+    let front = c .before .before .before .before .before .before in
+    let a = front .before .before .before .before .before .args in
+    fill-parts (a .place .now) (a .source .now) (front .copy-words .last .0) (c .before .before .clear .last .0) _ _ refl (omega arith)
+    (front .copy-words .ensures) refl (c .before .before .clear .ensures)
+
+same-length-2 : tie.Need-same-length-2
+same-length-2 c = search needs
+
+returns-2 : tie.Need-returns-2
+returns-2 c =
+    let a = c .before .before .before .before .before .before .before .before .args in
+    c .before .before .copy-words2 .ensures ∙ section-shorter (length (a .place .now)) (a .source .now) (omega arith)
 
 pub fill-words-spec : {M : Type 1} → statement M
 fill-words-spec =
     tie.close
     (tie.spec
-    Inv-loop
-    μ-loop
-    loop-holds
-    word-at-requires
-    mul-if1
-    slice-read-if1
-    mul-place
-    slice-write-place
-    add-i
-    loop-less
-    loop-again
+    slice-relend-prefix-copy-words
+    slice-aggregate-copy-words
+    copy-words-requires
+    mul-clear
+    sub-clear
+    part-clear-start
+    part-clear-end
+    clear-requires
+    slice-aggregate-copy-words-2
+    copy-words-requires-2
     same-length
-    returns)
+    returns
+    same-length-2
+    returns-2)

@@ -1,12 +1,26 @@
 -- `session::graph_fits` meets its contract: each test is made where those before it hold.
 use Prim.Native.Nat.{_+_, _-_}
-use borrow.Author.Needs.{needs}
-use native.Mathlib.Nat.{add-sub-cancel-left, sub-add-eq}
-use mathlib.Core.Path.{_≡_}
 use Rattle.session.specs.Layout.{part, below}
 use Rattle.session.specs.Tests.{allNamed, graphTest}
+use Rattle.simulation.specs.Ordered.{ascends}
+use borrow.Author.Needs.{needs}
+use mathlib.Core.Path.{_≡_, sym, _∙_}
+use native.Mathlib.Nat.{add-sub-cancel-left, sub-add-eq}
 use Rattle.session.proofs.graph_fits.Statement.{statement}
 use Rattle.session.proofs.graph_fits.Tie as tie
+
+-- the parts of the edges, by their lengths
+rest : (c : tie.After-all-below)
+    → let a = c .before .before .before .before .before .before .args in
+    c .all-below .result ≡ below 1 (part (a .session .now) (563 + a .edges) (2048 - a .edges))
+rest c =
+    let a = c .before .before .before .before .before .before .args in
+    rw (sub-add-eq 2611 563 (a .edges)) at (c .all-below .ensures)
+
+rises : (c : tie.After-all-ascend) → let a = c .before .before .before .before .before .before .before .before .before .args in c .all-ascend .result ≡ ascends (part (a .session .now) 563 (a .edges))
+rises c =
+    let a = c .before .before .before .before .before .before .before .before .before .args in
+    rw (add-sub-cancel-left 563 (a .edges)) at (c .all-ascend .ensures)
 
 add-end : tie.Need-add-end
 add-end c = search needs
@@ -38,6 +52,18 @@ part-all-below-end c = search needs
 all-below-requires : tie.Need-all-below-requires
 all-below-requires c κs = search needs
 
+sub-all-ascend : tie.Need-sub-all-ascend
+sub-all-ascend c = search needs
+
+part-all-ascend-start : tie.Need-part-all-ascend-start
+part-all-ascend-start c = search needs
+
+part-all-ascend-end : tie.Need-part-all-ascend-end
+part-all-ascend-end c = search needs
+
+all-ascend-requires : tie.Need-all-ascend-requires
+all-ascend-requires c κs = search needs
+
 sub-all-named : tie.Need-sub-all-named
 sub-all-named c = search needs
 
@@ -51,34 +77,7 @@ cast-all-named : tie.Need-cast-all-named
 cast-all-named c = search needs
 
 all-named-requires : tie.Need-all-named-requires
-all-named-requires c κs = search needs
-
-sub-all-ascend : tie.Need-sub-all-ascend
-sub-all-ascend c = search needs
-
-part-all-ascend-start : tie.Need-part-all-ascend-start
-part-all-ascend-start c = search needs
-
-part-all-ascend-end : tie.Need-part-all-ascend-end
-part-all-ascend-end c = search needs
-
-all-ascend-requires : tie.Need-all-ascend-requires
-all-ascend-requires c κs = search needs
-
--- the parts of the edges, by their lengths
-rest : (c : tie.After-all-below)
-    → let a = c .before .before .before .before .before .before .args in
-    c .all-below .result ≡ below 1 (part (a .session .now) (563 + a .edges) (2048 - a .edges))
-rest c =
-    let a = c .before .before .before .before .before .before .args in
-    rw (sub-add-eq 2611 563 (a .edges)) at (c .all-below .ensures)
-
-named : (c : tie.After-all-named)
-    → let a = c .before .before .before .before .before .before .before .before .before .args in
-    c .all-named .result ≡ allNamed (a .nodes) (part (a .session .now) 563 (a .edges))
-named c =
-    let a = c .before .before .before .before .before .before .before .before .before .args in
-    rw (add-sub-cancel-left 563 (a .edges)) at (c .all-named .ensures)
+all-named-requires c κs = sym (c .before .before .all-ascend .ensures) ∙ c .before .if3 .taken
 
 returns : tie.Need-returns
 unfolding graphTest
@@ -87,15 +86,15 @@ returns c =
     let two = three .before .before .before in
     let one = two .before .before .before in
     let a = one .before .before .before .before .args in
-    rw (← one .before .section-fits .ensures, one .if1 .taken, ← rest (two .before), two .if2 .taken, ← named (three .before), three .if3 .taken)
-    (rw (add-sub-cancel-left 563 (a .edges)) at (c .all-ascend .ensures))
+    rw (← one .before .section-fits .ensures, one .if1 .taken, ← rest (two .before), two .if2 .taken, ← rises (three .before), three .if3 .taken)
+    (rw (add-sub-cancel-left 563 (a .edges)) at (c .all-named .ensures))
 
 returns-2 : tie.Need-returns-2
 unfolding graphTest
 returns-2 c =
     let two = c .before .before .before in
     let one = two .before .before .before in
-    rw (← one .before .section-fits .ensures, one .if1 .taken, ← rest (two .before), two .if2 .taken, ← named (c .before), c .if3 .left)
+    rw (← one .before .section-fits .ensures, one .if1 .taken, ← rest (two .before), two .if2 .taken, ← rises (c .before), c .if3 .left)
 
 returns-3 : tie.Need-returns-3
 unfolding graphTest
@@ -121,15 +120,15 @@ graph-fits-spec =
     part-all-below-start
     part-all-below-end
     all-below-requires
+    sub-all-ascend
+    part-all-ascend-start
+    part-all-ascend-end
+    all-ascend-requires
     sub-all-named
     part-all-named-start
     part-all-named-end
     cast-all-named
     all-named-requires
-    sub-all-ascend
-    part-all-ascend-start
-    part-all-ascend-end
-    all-ascend-requires
     returns
     returns-2
     returns-3

@@ -9,7 +9,7 @@ use mathlib.Core.List.{List}
 use lib.ListN.{getD}
 use Rattle.session.specs.Layout.{inLayout}
 use Rattle.session.specs.Tests.{triggerTest, graphTest, marksTest}
-use Rattle.session.proofs.Tested.{layout-short, layout-no-states, layout-states, layout-nodes, layout-edges, layout-test, test-masks}
+use Rattle.session.proofs.Tested.{layout-short, layout-no-states, layout-states, layout-nodes, layout-edges, layout-test, test-masks, test-samples}
 use Rattle.session.proofs.in_layout.Statement.{statement}
 use Rattle.session.proofs.in_layout.Tie as tie
 
@@ -88,7 +88,13 @@ marks-fit-requires : tie.Need-marks-fit-requires
 marks-fit-requires c κs =
     let six = c .before .before in
     let xs = words (six .before .before) in
-    ((omega arith, omega arith, omega arith), test-masks xs (getD xs 0 0) (trigger-passed six) (omega arith) (omega arith))
+    let graph : graphTest xs (getD xs 1 0) (getD xs 2 0) ≡ true = sym (c .before .graph-fits .ensures) ∙ not-false _ (c .if7 .left) in (
+      (omega arith, omega arith, omega arith),
+      (
+        test-masks xs (getD xs 0 0) (trigger-passed six) (omega arith) (omega arith),
+        test-samples xs (getD xs 1 0) (getD xs 2 0) graph (omega arith) (omega arith) (omega arith),
+      ),
+    )
 
 returns-8 : tie.Need-returns-8
 returns-8 c =

@@ -2,9 +2,11 @@
 use borrow.Author.Needs.{needs}
 use native.Mathlib.Nat.{add-sub-cancel-left}
 use native.Mathlib.Omega.{arith}
-use mathlib.Core.Path.{sym, _∙_}
-use Rattle.session.specs.Tests.{marksTest}
-use Rattle.session.proofs.Tested.{part-length}
+use mathlib.Core.Path.{_≡_, sym, _∙_}
+use Rattle.session.specs.Limits.{maxNodes, marksAt}
+use Rattle.session.specs.Layout.{part}
+use Rattle.session.specs.Tests.{fits, marksTest}
+use Rattle.session.proofs.Tested.{part-length, test-marks, fits-unions}
 use Rattle.session.proofs.marks_fit.Statement.{statement}
 use Rattle.session.proofs.marks_fit.Tie as tie
 
@@ -20,20 +22,50 @@ add-samples-end c = search needs
 add-marks-end : tie.Need-add-marks-end
 add-marks-end c = search needs
 
-sub-section-fits : tie.Need-sub-section-fits
-sub-section-fits c = search needs
+sub-gathered : tie.Need-sub-gathered
+sub-gathered c = search needs
 
-part-section-fits-start : tie.Need-part-section-fits-start
-part-section-fits-start c = search needs
+part-gathered-start : tie.Need-part-gathered-start
+part-gathered-start c = search needs
 
-part-section-fits-end : tie.Need-part-section-fits-end
-part-section-fits-end c = search needs
+part-gathered-end : tie.Need-part-gathered-end
+part-gathered-end c = search needs
 
-cast-section-fits : tie.Need-cast-section-fits
-cast-section-fits c = search needs
+gathered-requires : tie.Need-gathered-requires
+gathered-requires c κs = search needs
 
-section-fits-requires : tie.Need-section-fits-requires
-section-fits-requires c κs = search needs
+mul-gathered : tie.Need-mul-gathered
+mul-gathered c = search needs
+
+sub-gathered-2 : tie.Need-sub-gathered-2
+sub-gathered-2 c = search needs
+
+part-gathered-start-2 : tie.Need-part-gathered-start-2
+part-gathered-start-2 c = search needs
+
+part-gathered-end-2 : tie.Need-part-gathered-end-2
+part-gathered-end-2 c = search needs
+
+gathered-requires-2 : tie.Need-gathered-requires-2
+gathered-requires-2 c κs = search needs
+
+cast-unions-fit : tie.Need-cast-unions-fit
+cast-unions-fit c = search needs
+
+unions-fit-requires : tie.Need-unions-fit-requires
+unions-fit-requires c κs = search needs
+
+-- the two unions say whether the section fits
+whole : (c : tie.After-unions-fit)
+    → let a = c .before .before .before .before .before .before .args in
+    c .unions-fit .result ≡ fits (a .states) (a .nodes) (part (a .session .now) marksAt maxNodes)
+whole c =
+    let s = c .before .before .before .before .before .before in
+    let used = c .before .before .before .gathered in
+    let unused = c .before .gathered2 in
+    c .unions-fit .ensures
+    ∙ fits-unions (s .args .session .now) 2611 512 (s .args .nodes) (omega arith) (omega arith) (s .args .states) (used .result) (unused .result)
+    (search needs) (used .ensures) (unused .ensures)
 
 sub-all-admitted : tie.Need-sub-all-admitted
 sub-all-admitted c = search needs
@@ -73,30 +105,39 @@ part-all-admitted-end-4 c = search needs
 
 all-admitted-requires : tie.Need-all-admitted-requires
 all-admitted-requires c κs =
-    let s = c .before .before .before .before .before .before .before .before in
+    let one = c .before .before .before .before in
+    let g = one .before .before .before .before in
+    let s = g .before .before .before in
     let n = s .args .states in
     let m = s .args .nodes in
     let xs = s .args .session .now in
+    let small = test-marks xs n m (sym (whole (one .before)) ∙ one .if1 .taken) (omega arith) (omega arith) (omega arith) in
     simp add-sub-cancel-left (
       (
         part-length xs 51 m (omega arith) ∙ sym (part-length xs 2611 m (omega arith)),
         part-length xs 19 n (omega arith) ∙ sym (part-length xs 3 n (omega arith)),
         omega (arith, part-length xs 3 n (omega arith)),
       ),
-      s .pre .1,
+      (
+        s .pre .1 .0,
+        (
+          (s .pre .1 .1, small, omega (arith, part-length xs 2611 m (omega arith))),
+          simp add-sub-cancel-left at (g .gathered .ensures),
+        ),
+      ),
     )
 
 returns : tie.Need-returns
 unfolding marksTest
 returns c =
     let one = c .before .before .before .before .before in
-    let s = one .before .before .before .before in
-    rw (← one .before .section-fits .ensures, one .if1 .taken)
+    let s = one .before .before .before .before .before .before .before in
+    rw (← whole (one .before), one .if1 .taken)
     (simp (add-sub-cancel-left, part-length (s .args .session .now) 3 (s .args .states) (omega arith)) at (c .all-admitted .ensures))
 
 returns-2 : tie.Need-returns-2
 unfolding marksTest
-returns-2 c = rw (← c .before .section-fits .ensures, c .if1 .left)
+returns-2 c = rw (← whole (c .before), c .if1 .left)
 
 pub marks-fit-spec : {M : Type 1} → statement M
 marks-fit-spec =
@@ -106,11 +147,17 @@ marks-fit-spec =
     add-values-end
     add-samples-end
     add-marks-end
-    sub-section-fits
-    part-section-fits-start
-    part-section-fits-end
-    cast-section-fits
-    section-fits-requires
+    sub-gathered
+    part-gathered-start
+    part-gathered-end
+    gathered-requires
+    mul-gathered
+    sub-gathered-2
+    part-gathered-start-2
+    part-gathered-end-2
+    gathered-requires-2
+    cast-unions-fit
+    unions-fit-requires
     sub-all-admitted
     part-all-admitted-start
     part-all-admitted-end

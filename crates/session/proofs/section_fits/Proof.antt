@@ -2,13 +2,9 @@
 use Prim.Native.Nat.{_-_}
 use borrow.Author.Needs.{needs}
 use native.Mathlib.Omega.{arith}
-use mathlib.Core.Path.{_≡_, sym, ap, _∙_}
-use mathlib.Core.Bool.{Bool, _&&_}
-use lib.Dec.{eqb}
+use mathlib.Core.Path.{_≡_, sym, _∙_}
 use lib.ListN.{length, take, drop, length-drop}
 use lib.Seq.{length-take-le, take-all}
-use Rattle.bits.specs.Word.{within}
-use Rattle.session.specs.Tests.{fits}
 use Rattle.session.proofs.Tables.{fits-gathered}
 use Rattle.session.proofs.section_fits.Statement.{statement}
 use Rattle.session.proofs.section_fits.Tie as tie
@@ -34,34 +30,21 @@ part-gathered-end c = search needs
 gathered-requires-2 : tie.Need-gathered-requires-2
 gathered-requires-2 c κs = search needs
 
-below-requires : tie.Need-below-requires
-below-requires c κs = search needs
-
-subset-requires : tie.Need-subset-requires
-subset-requires c κs = search needs
-
--- both tests
-both : (c : tie.After-subset)
-    → let a = c .before .before .before .before .before .before .before .args in
-    (c .subset .result && eqb (c .before .before .gathered2 .result) 0) ≡ fits (a .k) (a .used) (a .place .now)
-both c =
-    let s = c .before .before .before .before .before .before .before in
-    let xs = s .args .place .now in
-    let used = s .args .used in
-    let inside = c .before .before .before .before .gathered in
-    let unused = c .before .before .gathered2 in
-    let rest : take (length xs - used) (drop used xs) ≡ drop used xs =
-    take-all (length xs - used) (drop used xs) (omega (arith, length-drop used xs)) in
-    ap (λ (t : Bool). t && eqb (unused .result) 0)
-    (c .subset .ensures ∙ ap (within 32 (inside .result)) (c .before .below .ensures .0))
-    ∙ fits-gathered 32 (s .args .k) used (inside .result) (unused .result) xs (s .pre .0) (search needs) (inside .ensures)
-    (rw rest at (unused .ensures))
+unions-fit-requires : tie.Need-unions-fit-requires
+unions-fit-requires c κs = search needs
 
 returns : tie.Need-returns
-returns c = rw (c .if1 .taken) at (both (c .before))
-
-returns-2 : tie.Need-returns-2
-returns-2 c = c .if1 .left ∙ rw (c .if1 .left) at (both (c .before))
+returns c =
+    let s = c .before .before .before .before .before .before in
+    let xs = s .args .place .now in
+    let used = s .args .used in
+    let inside = c .before .before .before .gathered in
+    let unused = c .before .gathered2 in
+    let rest : take (length xs - used) (drop used xs) ≡ drop used xs =
+    take-all (length xs - used) (drop used xs) (omega (arith, length-drop used xs)) in
+    c .unions-fit .ensures
+    ∙ fits-gathered 32 (s .args .k) used (inside .result) (unused .result) xs (s .pre .0) (search needs) (inside .ensures)
+    (rw rest at (unused .ensures))
 
 pub section-fits-spec : {M : Type 1} → statement M
 section-fits-spec =
@@ -74,7 +57,5 @@ section-fits-spec =
     part-gathered-start
     part-gathered-end
     gathered-requires-2
-    below-requires
-    subset-requires
-    returns
-    returns-2)
+    unions-fit-requires
+    returns)

@@ -4,13 +4,13 @@ use borrow.Author.Needs.{needs}
 use native.Mathlib.Omega.{arith}
 use mathlib.Core.Path.{_≡_, sym, ap, fun-ext, _∙_}
 use mathlib.Core.Bool.{Bool, true, false, not, _&&_, and-true, and-false, cond}
-use lib.Bits.{bitAnd, bitXor}
+use lib.Bits.{bitAnd}
 use lib.Dec.{eqb}
 use lib.ListN.{length, getD}
 use Rattle.bits.specs.Word.{members}
 use Rattle.bits.proofs.Words.{zero-members}
 use Rattle.bits.proofs.Gathers.{gathers, gather-none, gather-more}
-use Rattle.session.proofs.Admission.{agrees-masked, stray}
+use Rattle.session.proofs.Admission.{agrees-inside, stray}
 use Rattle.session.proofs.strays.Statement.{statement}
 use Rattle.session.proofs.strays.Tie as tie
 
@@ -23,20 +23,20 @@ abbrev μ-loop : tie.MeasureT-loop
 loop-holds : tie.Need-loop-holds Inv-loop μ-loop
 loop-holds c = let a = c .before .before .args in (omega arith, gather-none (stray (a .samples .now) (a .marks .now) (a .mask) (a .value)))
 
-mul-picked : tie.Need-mul-picked Inv-loop μ-loop
-mul-picked c = search needs
+mul-picked-half : tie.Need-mul-picked-half Inv-loop μ-loop
+mul-picked-half c = search needs
 
-shared-slice-read-picked : tie.Need-shared-slice-read-picked Inv-loop μ-loop
-shared-slice-read-picked c = search needs
+shared-slice-read-picked-half : tie.Need-shared-slice-read-picked-half Inv-loop μ-loop
+shared-slice-read-picked-half c = search needs
 
-mul-picked-2 : tie.Need-mul-picked-2 Inv-loop μ-loop
-mul-picked-2 c = search needs
+mul-picked-half-2 : tie.Need-mul-picked-half-2 Inv-loop μ-loop
+mul-picked-half-2 c = search needs
 
-shared-slice-read-picked-2 : tie.Need-shared-slice-read-picked-2 Inv-loop μ-loop
-shared-slice-read-picked-2 c = search needs
+shared-slice-read-picked-half-2 : tie.Need-shared-slice-read-picked-half-2 Inv-loop μ-loop
+shared-slice-read-picked-half-2 c = search needs
 
-picked-requires : tie.Need-picked-requires Inv-loop μ-loop
-picked-requires c κs = search needs
+picked-half-requires : tie.Need-picked-half-requires Inv-loop μ-loop
+picked-half-requires c κs = search needs
 
 add-v : tie.Need-add-v Inv-loop μ-loop
 add-v c = search needs
@@ -51,16 +51,17 @@ picked-members word false u = zero-members u ∙ sym (and-false (members word u)
 
 loop-again : tie.Need-loop-again Inv-loop μ-loop
 loop-again c =
-    let a = c .before .before .before .before .before .before .before .args in
+    let s = c .before .before .before .before .before .before .before in
+    let a = s .args in
     let l = c .before .before .before .before .loop in
     let X = stray (a .samples .now) (a .marks .now) (a .mask) (a .value) in
     let sample = getD (a .samples .now) (l .v) 0 in
     let word = getD (a .marks .now) (l .v) 0 in
-    let off = not (eqb (bitAnd (bitXor (a .value) sample) (a .mask)) 0) in
-    let same = ap not (agrees-masked 16 (a .mask) (a .value) sample (c .before .before .before .before .before .before .before .pre .1)) in (
+    let off = not (eqb (bitAnd sample (a .mask)) (a .value)) in
+    let same = ap not (agrees-inside 16 (a .mask) (a .value) sample (s .pre .0 .1) (s .pre .1)) in (
       omega arith,
-      gather-more X (l .all) (c .picked .result) (l .v) (l .inv .1)
-          (fun-ext (λ u. ap (λ (w : ℕ). members w u) (c .picked .ensures) ∙ picked-members word off u ∙ ap (λ (b : Bool). members word u && b) same)),
+      gather-more X (l .all) (c .picked-half .result) (l .v) (l .inv .1)
+          (fun-ext (λ u. ap (λ (w : ℕ). members w u) (c .picked-half .ensures) ∙ picked-members word off u ∙ ap (λ (b : Bool). members word u && b) same)),
     )
 
 returns : tie.Need-returns Inv-loop μ-loop
@@ -75,11 +76,11 @@ strays-spec =
     Inv-loop
     μ-loop
     loop-holds
-    mul-picked
-    shared-slice-read-picked
-    mul-picked-2
-    shared-slice-read-picked-2
-    picked-requires
+    mul-picked-half
+    shared-slice-read-picked-half
+    mul-picked-half-2
+    shared-slice-read-picked-half-2
+    picked-half-requires
     add-v
     loop-less
     loop-again

@@ -1,82 +1,94 @@
--- `listing::changes::node_changes` meets its contract: after u states the changes of these are written.
-use Prim.Native.Nat.{_+_, _-_, _≤_}
+-- `listing::changes::node_changes` meets its contract: the changes of the states that are taken out of `rest` are written.
+use Prim.Native.Nat.{_<_}
 use native.Mathlib.Omega.{arith}
 use borrow.Author.Needs.{needs}
-use mathlib.Core.Path.{_≡_, refl, _∙_}
-use mathlib.Core.Logic.{⊎-elim}
-use lib.ListN.{length, length-set}
+use mathlib.Core.Path.{_∙_, ap}
+use mathlib.Core.Bool.{Bool}
+use lib.ListN.{length}
 use mir.Syntax.{w32}
 use mir.ValLaws.{toZ-ofZ}
-use Rattle.listing.specs.Placed.{nodeChanges, Placed}
-use Rattle.listing.proofs.Placing.{placed-start, node-none, node-wrote, node-passed}
+use Rattle.bits.specs.Word.{members}
+use Rattle.listing.specs.Changes.{sizeOf, signed}
+use Rattle.listing.proofs.Placing.{Writing, left, writing-start, writing-room, writing-less, writing-next, writing-end}
 use Rattle.listing.proofs.changes.node_changes.Statement.{statement}
 use Rattle.listing.proofs.changes.node_changes.Tie as tie
 
 abbrev Inv-loop : tie.InvT-loop
-Inv-loop changes₀ at node states before after next₀ u₀ changes next u =
-    (u ≤ states) × (next ≤ at + u) × (length changes ≡ length changes₀) × Placed changes₀ at (nodeChanges node u before after) changes next
+Inv-loop changes₀ at node states before after next₀ rest₀ changes next rest = Writing changes₀ at node states before after changes next rest
 
 abbrev μ-loop : tie.MeasureT-loop
-μ-loop changes₀ at node states before after next₀ u₀ changes next u = states - u
+μ-loop changes₀ at node states before after next₀ rest₀ changes next rest = length (left node states after (members rest))
+
+differing-requires : tie.Need-differing-requires Inv-loop μ-loop
+differing-requires c κs = search needs
+
+below-requires : tie.Need-below-requires Inv-loop μ-loop
+below-requires c κs = search needs
 
 loop-holds : tie.Need-loop-holds Inv-loop μ-loop
-loop-holds c = (search needs, search needs, refl, rw node-none (placed-start (c .args .changes .now) (c .args .at)))
+loop-holds c =
+    let a = c .before .before .args in
+    writing-start (a .changes .now) (a .at) (a .node) (a .states) (a .before) (a .after) (c .before .differing .result) (c .below .result)
+    (c .before .differing .ensures) (c .below .ensures .1)
+
+lowest-requires : tie.Need-lowest-requires Inv-loop μ-loop
+lowest-requires c κs = search needs
 
 has-requires : tie.Need-has-requires Inv-loop μ-loop
 has-requires c κs = search needs
 
-has-requires-2 : tie.Need-has-requires-2 Inv-loop μ-loop
-has-requires-2 c κs = search needs
-
 change-requires : tie.Need-change-requires Inv-loop μ-loop
 change-requires c κs = search needs
 
-mul-t13 : tie.Need-mul-t13 Inv-loop μ-loop
-mul-t13 c = search needs
+abbrev start : tie.After-lowest Inv-loop μ-loop → tie.Start Inv-loop μ-loop
+start c = c .before .before .before .before .before
+
+-- the place of the next change
+inside : (c : tie.After-lowest Inv-loop μ-loop) → c .before .before .loop .next < length (c .before .before .loop .changes)
+inside c =
+    let a = start c .args in
+    let w = c .before .before .loop .inv in
+    let k = c .lowest in
+    let room = writing-room (a .changes .now) (a .at) (a .node) (a .states) (a .before) (a .after) w (k .result) (k .ensures .1) (k .ensures .2) in
+    omega (arith, w .long)
+
+mul-t15 : tie.Need-mul-t15 Inv-loop μ-loop
+mul-t15 c = omega (arith, inside (c .before .before), c .before .before .before .before .loop .inv .long)
 
 slice-set-from-changes : tie.Need-slice-set-from-changes Inv-loop μ-loop
-slice-set-from-changes c = search needs
+slice-set-from-changes c = inside (c .before .before)
 
 add-next : tie.Need-add-next Inv-loop μ-loop
-add-next c = search needs
+add-next c = omega (arith, inside (c .before .before), c .before .before .before .before .loop .inv .long)
 
-add-u : tie.Need-add-u Inv-loop μ-loop
-add-u c = search needs
+without-lowest-requires : tie.Need-without-lowest-requires Inv-loop μ-loop
+without-lowest-requires c κs = search needs
 
 loop-less : tie.Need-loop-less Inv-loop μ-loop
-loop-less c = search needs
+loop-less c =
+    let k = c .before .before .before in
+    let a = start k .args in
+    writing-less (a .changes .now) (a .at) (a .node) (a .states) (a .before) (a .after) (k .before .before .loop .inv)
+    (k .lowest .result) (k .lowest .ensures .1) (k .lowest .ensures .2) (c .without-lowest .result) (c .without-lowest .ensures (k .lowest .result) (k .lowest .ensures .1) (k .lowest .ensures .2))
 
 loop-again : tie.Need-loop-again Inv-loop μ-loop
 loop-again c =
-    let a = c .before .before .before .before .before .args in
-    let l = c .before .before .before .before .loop in
-    let was = c .before .before .has in
-    let is = c .before .has2 in
-    ⊎-elim
-    (λ w.
-    rw (w .2, w .3) (
-      search needs,
-      search needs,
-      length-set (l .changes) (l .next) _ ∙ l .inv .2,
-      node-wrote (a .node) (l .u) (a .before) (a .after) (was .result) (is .result) (was .ensures) (is .ensures) _ (omega arith) (omega arith)
-          (w .0 .taken) (toZ-ofZ w32 (w .1 .result) (record { sfits = w .1 .ok }) ∙ w .1 .ensures) (l .inv .3),
-    ))
-    (λ w.
-    rw (w .1, w .2) (
-      search needs,
-      search needs,
-      l .inv .2,
-      node-passed (a .node) (l .u) (a .before) (a .after) (was .result) (is .result) (was .ensures) (is .ensures) (w .0 .left) (l .inv .3),
-    ))
-    (c .if1 .came)
+    let k = c .before .before .before in
+    let a = start k .args in
+    let z = c .before .change in
+    writing-next (a .changes .now) (a .at) (a .node) (a .states) (a .before) (a .after) (k .before .before .loop .inv)
+    (k .lowest .result) (k .lowest .ensures .1) (k .lowest .ensures .2) (c .without-lowest .result) (c .without-lowest .ensures (k .lowest .result) (k .lowest .ensures .1) (k .lowest .ensures .2)) _ (omega arith)
+    (toZ-ofZ w32 (z .result) (record { sfits = z .ok })
+    ∙ z .ensures
+    ∙ ap (λ (b : Bool). signed b (sizeOf (k .lowest .result) (a .node))) (c .before .before .has .ensures))
 
 same-length : tie.Need-same-length Inv-loop μ-loop
 same-length c = search needs
 
 returns : tie.Need-returns Inv-loop μ-loop
 returns c =
-    let end : c .before .loop .u ≡ c .before .before .args .states = omega arith in
-    rw (← end) (c .before .loop .inv .3)
+    let a = c .before .before .before .before .args in
+    writing-end (a .changes .now) (a .at) (a .node) (a .states) (a .before) (a .after) (c .before .loop .inv) (c .loop-test .left)
 
 pub node-changes-spec : {M : Type 1} → statement M
 node-changes-spec =
@@ -84,14 +96,16 @@ node-changes-spec =
     (tie.spec
     Inv-loop
     μ-loop
+    differing-requires
+    below-requires
     loop-holds
+    lowest-requires
     has-requires
-    has-requires-2
     change-requires
-    mul-t13
+    mul-t15
     slice-set-from-changes
     add-next
-    add-u
+    without-lowest-requires
     loop-less
     loop-again
     same-length
