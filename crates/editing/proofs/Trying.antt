@@ -23,8 +23,8 @@ use Rattle.session.specs.Limits.{wordBits}
 use Rattle.session.specs.Trigger.{Trigger, Graph, Marks, states, nodes, linked, admits, agrees, pattern}
 use Rattle.session.specs.Layout.{triggerOf, graphOf, marksOf, inLayout}
 use Rattle.session.proofs.Decoded.{LayoutFacts, layout-facts}
-use Rattle.refinement.specs.Tables.{marked, waits, patternOf, Admitted}
-use Rattle.trials.specs.Growth.{linksTo, Grown}
+use Rattle.refinement.specs.Tables.{linksTo, marked, waits, patternOf, Admitted}
+use Rattle.trials.specs.Growth.{Grown}
 use Rattle.promises.specs.Standing.{pairsOf, fresh, trialSet}
 use Rattle.reports.proofs.Systems.{same-states, closure-pattern}
 use Rattle.reports.proofs.Held.{held-marks}

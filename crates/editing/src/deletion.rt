@@ -11,10 +11,10 @@ ghost use Rattle.promises.specs.Rules.{deletion, graphRules, verdict};
 ghost use Rattle.promises.specs.Promises.{Done, ceased};
 ghost use Rattle.editing.specs.Steps.{steadyAt, Ceased};
 use edges::held::remove_edge;
-use refinement::refine::left_at;
-use refinement::refine::refine;
+use refinement::refine::edges_from;
+use refinement::refine::refine_alone;
+use refinement::refine::unmet;
 use refinement::worklist::WAITING_WORDS;
-use refinement::worklist::index;
 use refinement::worklist::put_in;
 use reports::marks::store_marks;
 use reports::parts::edges_of;
@@ -23,21 +23,14 @@ use reports::parts::marks_of;
 use trials::table::pairs_in;
 use trials::table::take_away;
 
-// Whether each mark at a node keeps its support: one look, before any index is built.
+// Whether each mark at a node keeps its support: one look by the marks alone, before any index is built.
 pub fn steady(session: &[u32], node: u32) -> bool
     requires { ⌜ (inLayout (now session) ≡ true) × (node < nodes (graphOf (now session))) ⌝ }
     ensures { λ r. ⌜ r ≡ steadyAt (now (session .entry)) node ⌝ }
 {
     let marks = marks_of(session);
-    let settled = [0u32; session::MAX_NODES];
-    let left = left_at(
-        links_of(session),
-        edges_of(session),
-        &settled,
-        marks,
-        node as usize,
-    );
-    left == marks[node as usize]
+    let edges = edges_from(edges_of(session), node as usize);
+    unmet(marks[node as usize], links_of(session), edges, marks, marks) == 0
 }
 
 // Refines a table with the marks of the session from the node where an edge went.
@@ -46,22 +39,14 @@ pub fn cease(session: &[u32], start: u32, table: &mut [u32])
     ensures { λ r. ⌜ Ceased (now (session .entry)) start (now (table .exit)) ⌝ }
 {
     let nodes = session[1] as usize;
-    let edges = edges_of(session);
-    let mut heads = [0u32; session::MAX_NODES];
-    let mut nexts = [0u32; session::MAX_EDGES];
-    index(edges, &mut heads, &mut nexts);
-    let settled = [0u32; session::MAX_NODES];
     let mut waiting = [0u32; WAITING_WORDS];
     put_in(&mut waiting, start as usize);
-    refine(
+    refine_alone(
         links_of(session),
-        edges,
+        edges_of(session),
         nodes,
-        &settled,
         table,
         &mut waiting,
-        &heads,
-        &nexts,
     );
 }
 

@@ -1,22 +1,26 @@
 // An insertion: the pairs that an edge more may cause to stand are tried, and those that do are marked.
 ghost use mathlib.Core.Path.{_≡_};
 ghost use mathlib.Core.Bool.{true};
-ghost use Prim.Native.Nat.{ℕ, _<_};
-ghost use lib.ListN.{length, getD};
+ghost use Prim.Native.Nat.{ℕ, _<_, _≤_};
+ghost use lib.ListN.{length, getD, take};
 ghost use Rattle.simulation.specs.System.{refined};
 ghost use Rattle.simulation.specs.Pattern.{system};
+ghost use Rattle.simulation.specs.Ordered.{ascends};
 ghost use Rattle.bits.specs.Word.{members};
-ghost use Rattle.session.specs.Limits.{maxNodes};
+ghost use Rattle.session.specs.Limits.{maxNodes, maxEdges};
 ghost use Rattle.session.specs.Trigger.{nodes, pattern};
-ghost use Rattle.session.specs.Layout.{triggerOf, graphOf, marksOf, inLayout};
-ghost use Rattle.refinement.specs.Tables.{marked, Indexed};
+ghost use Rattle.session.specs.Layout.{triggerOf, graphOf, marksOf, inLayout, below};
+ghost use Rattle.refinement.specs.Tables.{marked, Indexed, Started};
 ghost use Rattle.promises.specs.Standing.{pairsOf, trialSet};
 ghost use Rattle.promises.specs.Rules.{insertion, graphRules, verdict};
 ghost use Rattle.promises.specs.Promises.{Done};
 ghost use Rattle.reports.specs.Marks.{Inside};
 ghost use Rattle.editing.specs.Steps.{Holds, markedPairs, freshPairs, seedsOf};
 use edges::held::insert_edge;
+use refinement::links::linking;
 use refinement::refine::refine;
+use refinement::starts::STARTS;
+use refinement::starts::index_starts;
 use refinement::table::admitted;
 use refinement::worklist::WAITING_WORDS;
 use refinement::worklist::index;
@@ -29,7 +33,6 @@ use reports::parts::masks_of;
 use reports::parts::samples_of;
 use reports::parts::values_of;
 use trials::grow::grow;
-use trials::grow::linking;
 use trials::table::admitted_at;
 use trials::table::call_all;
 use trials::table::pairs_in;
@@ -96,8 +99,24 @@ pub fn try_pairs(
     );
 }
 
-// Refines a table of trials beside the marks: what is left begins to stand.
-pub fn begin(session: &[u32], heads: &[u32], nexts: &[u32], table: &mut [u32])
+// Up to this many trials the looks are few, and halving costs less than an index of all nodes.
+pub const FEW: u32 = 32;
+
+// Builds the index of first edges, in a table that is zero, where there are more than a few trials; how many places it has.
+pub fn starts_for(trials: u32, edges: &[u32], firsts: &mut [u32]) -> usize
+    requires { ⌜ (length (now edges) ≤ maxEdges) × (ascends (now edges) ≡ true) × (below 262144 (now edges) ≡ true) × (length (now firsts) ≡ 513) ⌝ }
+    requires { ⌜ ((v : ℕ) → getD (now firsts) v 0 ≡ 0) ⌝ }
+    ensures { λ r. ⌜ (r ≤ 513) × ((r ≡ 0 → ⊥) → Started (now (edges .entry)) (take r (now (firsts .exit)))) ⌝ }
+{
+    if trials <= FEW {
+        return 0;
+    }
+    index_starts(edges, firsts);
+    STARTS
+}
+
+// Refines a table of trials beside the marks: what is left begins to stand. Their number only decides whether an index is built.
+pub fn begin(session: &[u32], trials: u32, heads: &[u32], nexts: &[u32], table: &mut [u32])
     requires { ⌜ (inLayout (now session) ≡ true) × (length (now table) ≡ maxNodes) × Inside (now session) (now table) ⌝ }
     requires { ⌜ Indexed (graphOf (now session) .edges) (now heads) (now nexts) ⌝ }
     ensures { λ r. ⌜ Holds (now (session .entry)) (refined (system (pattern (triggerOf (now (session .entry))) (graphOf (now (session .entry))))) (markedPairs (now (session .entry))) (pairsOf (triggerOf (now (session .entry))) (graphOf (now (session .entry))) (marked (now (table .entry))))) (now (table .exit)) ⌝ }
@@ -105,13 +124,17 @@ pub fn begin(session: &[u32], heads: &[u32], nexts: &[u32], table: &mut [u32])
     let nodes = session[1] as usize;
     let mut waiting = [0u32; WAITING_WORDS];
     call_all(table, &mut waiting);
+    let edges = edges_of(session);
+    let mut firsts = [0u32; STARTS];
+    let places = starts_for(trials, edges, &mut firsts);
     refine(
         links_of(session),
-        edges_of(session),
+        edges,
         nodes,
         marks_of(session),
         table,
         &mut waiting,
+        &firsts[..places],
         heads,
         nexts,
     );
@@ -135,7 +158,7 @@ pub fn insert_edit(session: &mut [u32], start: u32, end: u32) -> u32
     let mut table = [0u32; session::MAX_NODES];
     try_pairs(session, start, seeds, &heads, &nexts, &mut table);
     let trials = pairs_in(&table, states, nodes);
-    begin(session, &heads, &nexts, &mut table);
+    begin(session, trials, &heads, &nexts, &mut table);
     put_together(&mut table, marks_of(session));
     store_marks(session, &table);
     trials

@@ -6,10 +6,9 @@ ghost use lib.ListN.{length, getD};
 ghost use Rattle.session.specs.Limits.{maxNodes};
 ghost use Rattle.session.specs.Layout.{inLayout};
 ghost use Rattle.matching.specs.Solved.{Solved};
-use refinement::refine::refine;
+use refinement::refine::refine_alone;
 use refinement::table::admitted;
 use refinement::worklist::WAITING_WORDS;
-use refinement::worklist::index;
 use reports::parts::edges_of;
 use reports::parts::links_of;
 use reports::parts::masks_of;
@@ -28,21 +27,13 @@ pub fn solve(session: &[u32], table: &mut [u32]) -> u32
         samples_of(session),
         table,
     );
-    let edges = edges_of(session);
-    let mut heads = [0u32; session::MAX_NODES];
-    let mut nexts = [0u32; session::MAX_EDGES];
-    index(edges, &mut heads, &mut nexts);
-    let settled = [0u32; session::MAX_NODES];
     let mut waiting = [4294967295u32; WAITING_WORDS];
-    refine(
+    refine_alone(
         links_of(session),
-        edges,
+        edges_of(session),
         nodes,
-        &settled,
         table,
         &mut waiting,
-        &heads,
-        &nexts,
     );
     trials
 }

@@ -1,5 +1,6 @@
 -- The table of admitted pairs as it is filled: node by node for a state, and state by state.
 use Prim.Native.Nat.{ℕ, zero, suc, _+_, _*_, _/_, _%_, _^_, _<_, _≤_}
+use native.Mathlib.Nat.{add-zero}
 use native.Mathlib.Numerals.{add-one}
 use native.Mathlib.Omega.{arith}
 use mathlib.Core.Path.{_≡_, refl, sym, ap, ap₂, _∙_}
@@ -7,16 +8,16 @@ use mathlib.Core.Logic.{⊎-elim}
 use mathlib.Core.Bool.{Bool, true, false, _&&_, _||_, cond, and-true, and-false, or-false}
 use mathlib.Core.List.{List}
 use lib.Arith.{digits-mod, digits-div}
-use lib.Bits.{bitAnd, bitXor}
+use lib.Bits.{bitAnd, bitOr, bitXor, or-zero-r}
 use lib.Dec.{ltb, eqb}
 use lib.ListN.{length, getD, set, length-set}
-use lib.Seq.{getD-set-same, getD-set-other}
+use lib.Seq.{getD-set-same, getD-set-other, set-getD}
 use borrow.Author.Tests.{ltb-true, lt-ltb, le-ltb, eqb-true, eqb-false, eq-eqb, ne-eqb}
 use Rattle.simulation.specs.Sets.{Set, also, count}
 use Rattle.simulation.proofs.Sets.{split, same, count-le}
 use Rattle.simulation.proofs.Loops.{count-same, total, count-rows}
 use Rattle.bits.specs.Word.{members}
-use Rattle.bits.proofs.Words.{zero-members}
+use Rattle.bits.proofs.Words.{zero-members, also-members}
 use Rattle.bits.proofs.Tests.{masked}
 use Rattle.session.specs.Limits.{wordBits, maxNodes}
 use Rattle.session.specs.Trigger.{agrees}
@@ -95,6 +96,23 @@ module _ (samples : List ℕ) (mask value u : ℕ) (ts : List ℕ) where
 
         away : (x v : ℕ) → (v ≡ k → ⊥) → marked ts' x v ≡ (marked ts x v || (eqb x u && (ltb v (k + 1) && agreed v)))
         away x v q = rw (more-other v k q) (s .words x v)
+
+    -- one store serves both: a bit that is picked by the test
+    pub seen-step : (bit w more : ℕ) (hit : Bool) → k < length ts' → hit ≡ eqb (bitAnd (bitXor value (getD samples k 0)) mask) 0 → bit ≡ 2 ^ u
+        → w ≡ cond hit bit 0
+        → more ≡ cond hit 1 0
+        → Seen (k + 1) (n + more) (set ts' k (bitOr (getD ts' k 0) w))
+    seen-step bit w more true l h b p q =
+        rw (p, q, b)
+        (seen-take (bitOr (getD ts' k 0) (2 ^ u)) l (eqb-true (bitAnd (bitXor value (getD samples k 0)) mask) 0 (sym h)) (also-members (getD ts' k 0) u))
+    seen-step bit w more false l h b p q =
+        rw (p, q, or-zero-r (getD ts' k 0), set-getD ts' k 0, add-zero)
+        (seen-pass (eqb-false (bitAnd (bitXor value (getD samples k 0)) mask) 0 (sym h)))
+
+-- a picked number is at most that number
+pub picked-le : (test : Bool) (w n : ℕ) → w ≡ cond test n 0 → w ≤ n
+picked-le true w n e = omega arith
+picked-le false w n e = omega arith
 
 -- ---- two sums change places
 

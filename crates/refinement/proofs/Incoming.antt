@@ -241,36 +241,65 @@ module _ {es heads nexts : List ℕ} (x : Indexed es heads nexts) where
 
 -- ---- the predecessors called in
 
--- those by the edges that are not left wait
-pub record Calling (es : List ℕ) (v : ℕ) (ws ws' : List ℕ) (n : ℕ) : Type 0 where
+-- those by the edges that are not left, and that pass the test P, wait
+pub record Calling (es : List ℕ) (P : Set) (v : ℕ) (ws ws' : List ℕ) (n : ℕ) : Type 0 where
   pub chain : Chained es v n
-  pub waiting : waits ws' ≡ (λ w. waits ws w || called es v n w)
+  pub waiting : waits ws' ≡ (λ w. waits ws w || (called es v n w && P w))
 
-pub calling-done : {es : List ℕ} {v : ℕ} {ws ws' : List ℕ} → Calling es v ws ws' 0 → waits ws' ≡ (λ w. waits ws w || precedes es v w)
-calling-done {es} {v} {ws} y = y .waiting ∙ fun-ext (λ w. ap (λ (b : Bool). waits ws w || b) (called-all es v w))
+pub calling-done : {es : List ℕ} {P : Set} {v : ℕ} {ws ws' : List ℕ} → Calling es P v ws ws' 0 → waits ws' ≡ (λ w. waits ws w || (precedes es v w && P w))
+calling-done {es} {P} {v} {ws} y = y .waiting ∙ fun-ext (λ w. ap (λ (b : Bool). waits ws w || (b && P w)) (called-all es v w))
 
-module _ {es heads nexts : List ℕ} (x : Indexed es heads nexts) where
-  pub calling-none : (v : ℕ) (ws : List ℕ) → v < 512 → Calling es v ws ws (getD heads v 0)
+module _ {es heads nexts : List ℕ} (x : Indexed es heads nexts) (P : Set) where
+  pub calling-none : (v : ℕ) (ws : List ℕ) → v < 512 → Calling es P v ws ws (getD heads v 0)
   calling-none v ws h =
       record {
         chain = chained-head x v h;
-        waiting = fun-ext (λ w. sym (ap (λ (b : Bool). waits ws w || b) (called-head x v w h) ∙ or-false (waits ws w)));
+        waiting = fun-ext (λ w. sym (ap (λ (b : Bool). waits ws w || (b && P w)) (called-head x v w h) ∙ or-false (waits ws w)));
       }
 
-  pub calling-more : {v n : ℕ} {ws ws' ws'' : List ℕ} → Calling es v ws ws' n → (n ≡ 0 → ⊥) → waits ws'' ≡ also (waits ws') (getD es (n - 1) 0 / 512)
-      → Calling es v ws ws'' (getD nexts (n - 1) 0)
-  calling-more {v} {n} {ws} {ws'} {ws''} y some e =
-      record {
-        chain = chained-next x (y .chain) some;
-        waiting = fun-ext now;
-      }
-    where
-      start : ℕ
-      start = getD es (n - 1) 0 / 512
+  module _ {v n : ℕ} {ws ws' : List ℕ} (y : Calling es P v ws ws' n) (some : n ≡ 0 → ⊥) where
+    abbrev start : ℕ
+    start = getD es (n - 1) 0 / 512
 
-      now : (w : ℕ) → waits ws'' w ≡ (waits ws w || called es v (getD nexts (n - 1) 0) w)
-      now w =
-          ap (λ (X : Set). X w) e
-          ∙ ap (λ (X : Set). X w || eqb w start) (y .waiting)
-          ∙ or-assoc (waits ws w) (called es v n w) (eqb w start)
-          ∙ ap (λ (b : Bool). waits ws w || b) (sym (called-next x (y .chain) some w))
+    -- with one edge less left
+    one-more : (w : ℕ) → (waits ws w || (called es v (getD nexts (n - 1) 0) w && P w)) ≡ (waits ws' w || (eqb w start && P w))
+    one-more w =
+        ap (λ (b : Bool). waits ws w || (b && P w)) (called-next x (y .chain) some w)
+        ∙ spread (waits ws w) (called es v n w) (eqb w start) (P w)
+        ∙ ap (λ (X : Set). X w || (eqb w start && P w)) (sym (y .waiting))
+      where
+        spread : (a b c d : Bool) → (a || ((b || c) && d)) ≡ ((a || (b && d)) || (c && d))
+        spread true b c d = refl
+        spread false true c true = refl
+        spread false true true false = refl
+        spread false true false false = refl
+        spread false false c d = refl
+
+    -- the start of the edge passes and is put in, or fails
+    pub calling-more : {ws'' : List ℕ} → P start ≡ true → waits ws'' ≡ also (waits ws') start → Calling es P v ws ws'' (getD nexts (n - 1) 0)
+    calling-more {ws''} pass e =
+        record {
+          chain = chained-next x (y .chain) some;
+          waiting = e ∙ fun-ext (λ w. ap (λ (b : Bool). waits ws' w || b) (here w) ∙ sym (one-more w));
+        }
+      where
+        here : (w : ℕ) → eqb w start ≡ (eqb w start && P w)
+        here w =
+            ⊎-elim
+            (λ (t : eqb w start ≡ true). rw t (rw (eqb-true w start t) (sym pass)))
+            (λ (t : eqb w start ≡ false). rw t refl)
+            (split (eqb w start))
+
+    pub calling-pass : P start ≡ false → Calling es P v ws ws' (getD nexts (n - 1) 0)
+    calling-pass fails =
+        record {
+          chain = chained-next x (y .chain) some;
+          waiting = fun-ext (λ w. sym (one-more w ∙ ap (λ (b : Bool). waits ws' w || b) (none w) ∙ or-false (waits ws' w)));
+        }
+      where
+        none : (w : ℕ) → (eqb w start && P w) ≡ false
+        none w =
+            ⊎-elim
+            (λ (t : eqb w start ≡ true). rw t (rw (eqb-true w start t) fails))
+            (λ (t : eqb w start ≡ false). rw t refl)
+            (split (eqb w start))

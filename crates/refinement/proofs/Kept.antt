@@ -1,22 +1,23 @@
--- What a node keeps: whether each link of a set is carried, link by link and edge by edge, and the states whose links are.
-use Prim.Native.Nat.{ℕ, _+_, _%_, _<_, _≤_, zero-le}
+-- What a node keeps: the links of a set that no edge carries, and the states without such a link.
+use Prim.Native.Nat.{ℕ, _+_, _%_, _^_, _<_, _≤_, zero-le}
 use native.Mathlib.Numerals.{add-one}
 use native.Mathlib.Omega.{arith}
 use mathlib.Core.Path.{_≡_, refl, sym, ap, fun-ext, _∙_}
 use mathlib.Core.Logic.{⊎-elim}
-use mathlib.Core.Bool.{Bool, true, false, not, _&&_, _||_, and-true, and-false}
+use mathlib.Core.Bool.{Bool, true, false, not, _&&_, _||_, and-true}
 use mathlib.Core.List.{List}
 use lib.Bits.{bitOr}
 use lib.Dec.{ltb, eqb}
 use lib.ListN.{length, getD}
-use borrow.Author.Tests.{ltb-true, lt-ltb, le-ltb, eqb-true, eqb-false}
-use Rattle.simulation.specs.Sets.{Set, allBelow, without}
+use borrow.Author.Tests.{ltb-true, lt-ltb, eqb-true, eq-eqb}
+use Rattle.simulation.specs.Sets.{Set, allBelow, anyBelow, minus}
 use Rattle.simulation.specs.Search.{found}
-use Rattle.simulation.proofs.Sets.{clash, split, same, refuted, and-make, implies-make, implies-take, all-take}
+use Rattle.simulation.proofs.Sets.{clash, split, same, refuted, and-make, and-l, and-r, or-l, or-r, or-take, not-make, not-take, implies-make, implies-take, any-make, any-take, all-make, all-take}
 use Rattle.simulation.proofs.Search.{found-here, found-on, found-end}
-use Rattle.bits.specs.Word.{members}
-use Rattle.bits.proofs.Words.{or-members}
-use Rattle.refinement.specs.Tables.{marked, carried, whole}
+use Rattle.bits.specs.Word.{members, meets}
+use Rattle.bits.proofs.Words.{zero-members, same-members, or-members}
+use Rattle.refinement.specs.Tables.{marked, linkedFrom, linksTo, carried, whole, keptOf, unmetOf}
+use Rattle.refinement.proofs.Linked.{links-none}
 
 module _ (es ss ts : List ℕ) where
   -- ---- a carrier of one link, among the edges from k on
@@ -47,81 +48,168 @@ module _ (es ss ts : List ℕ) where
   pub carried-end : (o k : ℕ) → length es ≤ k → carriedFrom o k ≡ false
   carried-end o k l = found-end (carrier o) k (length es) l
 
-  -- ---- each link of a set
+-- ---- the links of a set without a carrier: before the edge k, those of the edges below it are struck off
 
-  module _ (set : ℕ) where
-    pub whole-none : whole 0 set es ss ts ≡ true
-    unfolding whole allBelow
-    whole-none = refl
+module _ (set : ℕ) (es ss ts : List ℕ) where
+  pub record Searching (rest k : ℕ) : Type 0 where
+    pub inside : k ≤ length es
+    pub among : (o : ℕ) → members rest o ≡ true → members set o ≡ true
+    pub struck : (o : ℕ) → members set o ≡ true → members rest o ≡ false → carried es ss ts o ≡ true
+    pub unseen : (o : ℕ) → members rest o ≡ true → carried es ss ts o ≡ carriedFrom es ss ts o k
 
-    pub whole-more : (i : ℕ) → whole i set es ss ts ≡ true → (members set i ≡ true → carried es ss ts i ≡ true)
-        → whole (i + 1) set es ss ts ≡ true
-    unfolding whole allBelow
-    whole-more i h c = rw add-one (and-make (implies-make (members set i) (carried es ss ts i) c) h)
+  pub searching-none : Searching set 0
+  searching-none = record {
+    inside = zero-le;
+    among = λ o m. m;
+    struck = λ o m e. clash m e;
+    unseen = λ o m. carried-from es ss ts o;
+  }
 
-    pub whole-lost : (n i : ℕ) → i < n → members set i ≡ true → carried es ss ts i ≡ false → whole n set es ss ts ≡ false
-    unfolding whole
-    whole-lost n i l m c =
-        refuted (whole n set es ss ts)
+  module _ (rest k : ℕ) (r : Searching rest k) where
+    pub searching-more : k < length es → (rest' : ℕ)
+        → members rest' ≡ minus (members rest) (members (bitOr (getD ss (getD es k 0 % 512) 0) (getD ts (getD es k 0 % 512) 0)))
+        → Searching rest' (k + 1)
+    searching-more l rest' e =
+        record {
+          inside = omega (arith, l);
+          among = λ o m. r .among o (and-l (members rest o) (not (members here o)) (sym (at o) ∙ m));
+          struck = λ o m off.
+              ⊎-elim
+              (λ was.
+              ⊎-elim
+              (λ h. r .unseen o was ∙ carried-here es ss ts o k l h)
+              (λ h. clash (at o ∙ and-make was (not-make h)) off)
+              (split (members here o)))
+              (λ was. r .struck o m was)
+              (split (members rest o));
+          unseen = λ o m.
+              let both = sym (at o) ∙ m in
+              r .unseen o (and-l (members rest o) (not (members here o)) both)
+              ∙ carried-on es ss ts o k l (not-take (members here o) (and-r (members rest o) (not (members here o)) both));
+        }
+      where
+        here : ℕ
+        here = bitOr (getD ss (getD es k 0 % 512) 0) (getD ts (getD es k 0 % 512) 0)
+
+        at : (o : ℕ) → members rest' o ≡ (members rest o && not (members here o))
+        at o = ap (λ (X : Set). X o) e
+
+    -- what is left at the end has no carrier: all edges were looked at, or nothing is left
+    ended : ((o : ℕ) → members rest o ≡ true → carried es ss ts o ≡ false) → (o : ℕ) → members rest o ≡ (members set o && not (carried es ss ts o))
+    ended none o =
+        ⊎-elim
+        (λ m. m ∙ sym (and-make (r .among o m) (not-make (none o m))))
+        (λ m.
+        m
+        ∙ sym
+        (refuted (members set o && not (carried es ss ts o))
         (λ h.
-        clash
-        (implies-take (members set i) (carried es ss ts i)
-        (all-take n (λ o. not (members set o) || carried es ss ts o) h i l) m)
-        c)
+        clash (r .struck o (and-l (members set o) (not (carried es ss ts o)) h) m)
+        (not-take (carried es ss ts o) (and-r (members set o) (not (carried es ss ts o)) h)))))
+        (split (members rest o))
 
--- ---- the states of a word that pass the test W, those below u tested
+    pub searching-end : length es ≤ k → (o : ℕ) → members rest o ≡ (members set o && not (carried es ss ts o))
+    searching-end l = ended (λ o m. r .unseen o m ∙ carried-end es ss ts o k l)
 
-module _ (word : ℕ) (W : Set) where
-  abbrev pub keptTo : ℕ → Set
-  keptTo u x = members word x && (not (ltb x u) || W x)
+    pub searching-done : rest ≡ 0 → (o : ℕ) → members rest o ≡ (members set o && not (carried es ss ts o))
+    searching-done e = ended (λ o m. clash m (ap (λ (w : ℕ). members w o) e ∙ zero-members o))
 
-  pub kept-none : members word ≡ keptTo 0
-  kept-none =
-      fun-ext
-      (λ x. sym (ap (λ (b : Bool). members word x && (not b || W x)) (le-ltb x 0 zero-le) ∙ and-true (members word x)))
+-- ---- what a word keeps: the states without a link to one that is missing
 
-  module _ (u : ℕ) where
-    before : keptTo u u ≡ members word u
-    before =
-        ap (λ (b : Bool). members word u && (not b || W u)) (le-ltb u u (omega arith)) ∙ and-true (members word u)
+module _ (word : ℕ) (links es ss ts : List ℕ) (missing : ℕ) (lacks : members missing ≡ unmetOf word links es ss ts) where
+  abbrev n : ℕ
+  n = length links
 
-    after : keptTo (u + 1) u ≡ (members word u && W u)
-    after = ap (λ (b : Bool). members word u && (not b || W u)) (lt-ltb u (u + 1) (omega arith))
+  -- a state of the word is whole where none of its links is missing
+  whole-missing : (u : ℕ) → u < n → members word u ≡ true → n ≤ 32 → whole n (getD links u 0) es ss ts ≡ not (meets (getD links u 0) missing)
+  unfolding whole
+  whole-missing u l m few =
+      same (whole n (getD links u 0) es ss ts) (not (meets (getD links u 0) missing))
+      (λ h.
+      not-make
+      (refuted (meets (getD links u 0) missing)
+      (λ k.
+      let r = any-take 32 (λ o. members (getD links u 0) o && members missing o) k in
+      let o = r .0 in
+      let link = and-l (members (getD links u 0) o) (members missing o) (r .2) in
+      let due = linkedFrom links word o && ltb o n in
+      let lost = sym (ap (λ (X : Set). X o) lacks) ∙ and-r (members (getD links u 0) o) (members missing o) (r .2) in
+      let small = ltb-true o n (and-r (linkedFrom links word o) (ltb o n) (and-l due (not (carried es ss ts o)) lost)) in
+      clash
+      (implies-take (members (getD links u 0) o) (carried es ss ts o)
+      (all-take n (λ i. not (members (getD links u 0) i) || carried es ss ts i) h o small) link)
+      (not-take (carried es ss ts o) (and-r due (not (carried es ss ts o)) lost)))))
+      (λ h.
+      all-make n (λ i. not (members (getD links u 0) i) || carried es ss ts i)
+      (λ o small.
+      implies-make (members (getD links u 0) o) (carried es ss ts o)
+      (λ link.
+      ⊎-elim (λ e. e)
+      (λ e.
+      let due : (linkedFrom links word o && ltb o n) ≡ true =
+      and-make (any-make n (λ x. members word x && members (getD links x 0) o) u l (and-make m link)) (lt-ltb o n small) in
+      clash
+      (any-make 32 (λ i. members (getD links u 0) i && members missing i) o (omega (arith, few, small))
+      (and-make link (ap (λ (X : Set). X o) lacks ∙ and-make due (not-make e))))
+      (not-take (meets (getD links u 0) missing) h))
+      (split (carried es ss ts o)))))
 
-    away : (x : ℕ) → (x ≡ u → ⊥) → keptTo u x ≡ keptTo (u + 1) x
-    away x h =
-        ap (λ (b : Bool). members word x && (not b || W x))
-        (same (ltb x u) (ltb x (u + 1))
-        (λ t. lt-ltb x (u + 1) (omega (arith, ltb-true x u t)))
-        (λ t. lt-ltb x u (omega (arith, h, ltb-true x (u + 1) t))))
-
-    module _ (left : ℕ) (e : members left ≡ keptTo u) where
-      -- u is no member, or passes
-      pub kept-pass : (members word u ≡ true → W u ≡ true) → members left ≡ keptTo (u + 1)
-      kept-pass h =
-          e
-          ∙ fun-ext
-          (λ x.
+  pub kept-without : n ≤ 32 → minus (members word) (linksTo links missing) ≡ keptOf word links es ss ts
+  kept-without few = fun-ext (λ u. ⊎-elim (λ (m : members word u ≡ true). rw m (there u m)) (λ (m : members word u ≡ false). rw m refl) (split (members word u)))
+    where
+      there : (u : ℕ) → members word u ≡ true
+          → not (ltb u n && meets (getD links u 0) missing) ≡ (not (ltb u n) || whole n (getD links u 0) es ss ts)
+      there u m =
           ⊎-elim
-          (λ (t : eqb x u ≡ true). rw (eqb-true x u t) (before ∙ passes (members word u) (W u) h ∙ sym after))
-          (λ (t : eqb x u ≡ false). away x (eqb-false x u t))
-          (split (eqb x u)))
-        where
-          passes : (a b : Bool) → (a ≡ true → b ≡ true) → a ≡ (a && b)
-          passes true b h = sym (h refl)
-          passes false b h = refl
+          (λ (e : ltb u n ≡ true). rw e (sym (whole-missing u (ltb-true u n e) m few)))
+          (λ (e : ltb u n ≡ false). rw e refl)
+          (split (ltb u n))
 
-      -- u fails, and is taken out
-      pub kept-lost : (left' : ℕ) → W u ≡ false → members left' ≡ without (members left) u → members left' ≡ keptTo (u + 1)
-      kept-lost left' h g =
-          g
-          ∙ fun-ext
-          (λ x.
-          ⊎-elim
-          (λ (t : eqb x u ≡ true).
-          rw t
-          (and-false (members left x)
-          ∙ rw (eqb-true x u t) (sym (after ∙ ap (λ (b : Bool). members word u && b) h ∙ and-false (members word u)))))
-          (λ (t : eqb x u ≡ false).
-          rw t (and-true (members left x) ∙ ap (λ (X : Set). X x) e ∙ away x (eqb-false x u t)))
-          (split (eqb x u)))
+  -- where none is missing the word stays
+  pub kept-whole : n ≤ 32 → missing ≡ 0 → members word ≡ keptOf word links es ss ts
+  kept-whole few e =
+      fun-ext (λ u. sym (ap (λ (b : Bool). members word u && not b) (ap (λ (x : ℕ). linksTo links x u) e ∙ links-none links u) ∙ and-true (members word u)))
+      ∙ kept-without few
+
+  -- none is missing just where each state of the word is whole
+  pub whole-met : n ≤ 32 → eqb missing 0 ≡ allBelow (length links) (λ u. not (members word u) || whole (length links) (getD links u 0) es ss ts)
+  whole-met few = same (eqb missing 0) (allBelow n wholeAt) there back
+    where
+      wholeAt : Set
+      wholeAt u = not (members word u) || whole n (getD links u 0) es ss ts
+
+      there : eqb missing 0 ≡ true → allBelow n wholeAt ≡ true
+      there e =
+          all-make n wholeAt
+          (λ u l.
+          implies-make (members word u) (whole n (getD links u 0) es ss ts)
+          (λ m.
+          whole-missing u l m few
+          ∙ not-make
+          (refuted (meets (getD links u 0) missing)
+          (λ k.
+          let r = any-take 32 (λ o. members (getD links u 0) o && members missing o) k in
+          clash (and-r (members (getD links u 0) (r .0)) (members missing (r .0)) (r .2))
+          (ap (λ (w : ℕ). members w (r .0)) (eqb-true missing 0 e) ∙ zero-members (r .0))))))
+
+      back : allBelow n wholeAt ≡ true → eqb missing 0 ≡ true
+      back h =
+          eq-eqb missing 0
+          (same-members missing 0
+          (fun-ext
+          (λ o.
+          refuted (members missing o)
+          (λ m.
+          let due = linkedFrom links word o && ltb o n in
+          let lost = and-l due (not (carried es ss ts o)) (sym (ap (λ (X : Set). X o) lacks) ∙ m) in
+          let small = ltb-true o n (and-r (linkedFrom links word o) (ltb o n) lost) in
+          let r = any-take n (λ u. members word u && members (getD links u 0) o) (and-l (linkedFrom links word o) (ltb o n) lost) in
+          let u = r .0 in
+          let in-word = and-l (members word u) (members (getD links u 0) o) (r .2) in
+          let link = and-r (members word u) (members (getD links u 0) o) (r .2) in
+          clash
+          (any-make 32 (λ i. members (getD links u 0) i && members missing i) o (omega (arith, few, small)) (and-make link m))
+          (not-take (meets (getD links u 0) missing)
+          (sym (whole-missing u (r .1) in-word few)
+          ∙ implies-take (members word u) (whole n (getD links u 0) es ss ts) (all-take n wholeAt h u (r .1)) in-word)))
+          ∙ sym (zero-members o))))

@@ -4,7 +4,7 @@ use native.Mathlib.Nat.{mod-lt, div-lt-iff-lt-mul, pow-suc}
 use native.Mathlib.Omega.{arith}
 use mathlib.Core.Path.{_≡_, refl, sym, _∙_, ap, ap₂, fun-ext, subst}
 use mathlib.Core.Logic.{_⊎_, inl, inr, ⊎-elim}
-use mathlib.Core.Bool.{Bool, true, false, not, _&&_, _||_, or-false}
+use mathlib.Core.Bool.{Bool, true, false, not, _&&_, _||_, and-false, or-false}
 use mathlib.Core.List.{List}
 use lib.Dec.{ltb, eqb}
 use lib.ListN.{length, getD, take, drop, length-take, length-drop}
@@ -23,10 +23,10 @@ use Rattle.simulation.proofs.Loops.{without-falls}
 use Rattle.simulation.proofs.Search.{found-make, found-take, first-at, first-before}
 use Rattle.simulation.proofs.Ordered.{Rising, rising-take, elem-at, elem-index}
 use Rattle.simulation.proofs.Edges.{all-same, elem-joins, joins-elem, from-le, from-mono, supported-edges}
-use Rattle.bits.specs.Word.{members}
+use Rattle.bits.specs.Word.{members, meets}
 use Rattle.bits.proofs.Words.{same-below}
 use Rattle.session.specs.Limits.{maxNodes}
-use Rattle.refinement.specs.Tables.{marked, carried, whole, keptOf, edgesFrom, waits, endsAt, precedes, Sound, Turned, patternOf, tabled, Settled}
+use Rattle.refinement.specs.Tables.{marked, linksTo, carried, whole, keptOf, edgesFrom, waits, endsAt, precedes, Sound, Turned, patternOf, tabled, Settled}
 
 -- ---- the edges from a node
 
@@ -143,8 +143,9 @@ module _ (nodes : ℕ) (links es : List ℕ) (sound : Sound nodes links es) wher
     T ts = tabled nodes links es ts
 
     -- what the code finds for a state is whether it is supported
-    whole-supported : (ts : List ℕ) (u v : ℕ) → u < length links
-        → whole (length links) (getD links u 0) (edgesFrom es v) ss ts ≡ supported s (union S (T ts)) (pair P u v)
+    pub whole-supported : (ts : List ℕ) (u v : ℕ) → u < length links
+        → whole (length links) (getD links u 0) (edgesFrom es v) ss ts
+        ≡ supported (system (patternOf nodes links es)) (union (tabled nodes links es ss) (tabled nodes links es ts)) (pair (patternOf nodes links es) u v)
     unfolding whole carried edgesFrom leads
     whole-supported ts u v l =
         all-same n (λ o. not (members (getD links u 0) o) || carried (edgesFrom es v) ss ts o)
@@ -157,7 +158,7 @@ module _ (nodes : ℕ) (links es : List ℕ) (sound : Sound nodes links es) wher
         ∙ sym (supported-edges maxNodes es rising nodes ends-inside n (λ u o. members (getD links u 0) o) (λ u v. true) (union S (T ts)) u v l)
 
     -- and so for the states that a node keeps
-    pub kept-supported : (ts : List ℕ) (u v : ℕ) → u < length links
+    kept-supported : (ts : List ℕ) (u v : ℕ) → u < length links
         → keptOf (getD ts v 0) links (edgesFrom es v) ss ts u
         ≡ (marked ts u v
         && supported (system (patternOf nodes links es)) (union (tabled nodes links es ss) (tabled nodes links es ts)) (pair (patternOf nodes links es) u v))
@@ -210,32 +211,86 @@ module _ (nodes : ℕ) (links es : List ℕ) (sound : Sound nodes links es) wher
       changed : Bool
       changed = not (eqb (getD ts' v 0) (getD ts v 0))
 
-      -- where the word stays, the table does
-      same-table : changed ≡ false → T ts' ≡ T ts
+      same-word : changed ≡ false → getD ts' v 0 ≡ getD ts v 0
       unfolding changed
-      same-table h =
-          let e : getD ts' v 0 ≡ getD ts v 0 = eqb-true (getD ts' v 0) (getD ts v 0) (not-off (eqb (getD ts' v 0) (getD ts v 0)) h) in
-          fun-ext
-          (λ p.
-          ⊎-elim
-          (λ q. ap (λ (x : ℕ). members x (p % n)) (ap (λ (y : ℕ). getD ts' y 0) q ∙ e ∙ ap (λ (y : ℕ). getD ts y 0) (sym q)))
-          (λ q. left-away p q)
-          (at-v-or p))
+      same-word h = eqb-true (getD ts' v 0) (getD ts v 0) (not-off (eqb (getD ts' v 0) (getD ts v 0)) h)
         where
           not-off : (b : Bool) → not b ≡ false → b ≡ true
           not-off true k = refl
           not-off false k = clash refl k
 
-      -- a pair that was supported and whose node has no edge to v is supported still
-      unmoved : (p : ℕ) → precedes es v (p / n) ≡ false → In (supported s (union S (T ts))) p → In (supported s (union S (T ts'))) p
-      unmoved p apart h =
+      -- where the word stays, the table does
+      same-table : changed ≡ false → T ts' ≡ T ts
+      same-table h =
+          fun-ext
+          (λ p.
+          ⊎-elim
+          (λ q. ap (λ (x : ℕ). members x (p % n)) (ap (λ (y : ℕ). getD ts' y 0) q ∙ same-word h ∙ ap (λ (y : ℕ). getD ts y 0) (sym q)))
+          (λ q. left-away p q)
+          (at-v-or p))
+
+      -- the states that went are those that are missing now
+      went-at : (o : ℕ) → members (turned .gone) o ≡ (members (getD ts v 0) o && not (members (getD ts' v 0) o))
+      went-at o = ap (λ (X : Set). X o) (turned .went)
+
+      -- the node w holds a state with a link to one that went
+      shaken : ℕ → Bool
+      shaken w = anyBelow 32 (λ u. members (getD ts' w 0) u && linksTo links (turned .gone) u)
+
+      -- where the word stays, none does
+      unshaken : changed ≡ false → (w : ℕ) → shaken w ≡ false
+      unfolding changed shaken
+      unshaken c w =
+          refuted (shaken w)
+          (λ h.
+          let r = any-take 32 (λ u. members (getD ts' w 0) u && linksTo links (turned .gone) u) h in
+          let u = r .0 in
+          let touches = and-r (ltb u n) (meets (getD links u 0) (turned .gone)) (and-r (members (getD ts' w 0) u) (linksTo links (turned .gone) u) (r .2)) in
+          let i = any-take 32 (λ o. members (getD links u 0) o && members (turned .gone) o) touches in
+          let o = i .0 in
+          let lost : (members (getD ts v 0) o && not (members (getD ts' v 0) o)) ≡ true =
+          sym (went-at o) ∙ and-r (members (getD links u 0) o) (members (turned .gone) o) (i .2) in
+          clash
+          (ap (λ (x : ℕ). members x o) (same-word c) ∙ and-l (members (getD ts v 0) o) (not (members (getD ts' v 0) o)) lost)
+          (not-take (members (getD ts' v 0) o) (and-r (members (getD ts v 0) o) (not (members (getD ts' v 0) o)) lost)))
+
+      -- a carrier of a pair that is left: it is settled, or left, or else the pair's node is called in
+      carrier-left : (p o q : ℕ) → In (T ts') p → o < n → members (getD links (p % n) 0) o ≡ true → q % n ≡ o
+          → joins maxNodes es (p / n) (q / n) ≡ true → In (union S (T ts)) q → (precedes es v (p / n) && shaken (p / n)) ≡ false → In (union S (T ts')) q
+      unfolding shaken
+      carrier-left p o q held small link at-o edge old apart =
+          ⊎-elim (λ h. or-l (T ts' q) h)
+          (λ h.
+          ⊎-elim
+          (λ (e : q / n ≡ v).
+          ⊎-elim (λ k. or-r (S q) k)
+          (λ (k : T ts' q ≡ false).
+          let was : members (getD ts v 0) o ≡ true = subst (λ (x : ℕ). members (getD ts v 0) x ≡ true) at-o (subst (λ (x : ℕ). members (getD ts x 0) (q % n) ≡ true) e h) in
+          let is : members (getD ts' v 0) o ≡ false = subst (λ (x : ℕ). members (getD ts' v 0) x ≡ false) at-o (subst (λ (x : ℕ). members (getD ts' x 0) (q % n) ≡ false) e k) in
+          let lost : members (turned .gone) o ≡ true = went-at o ∙ and-make was (not-make is) in
+          let u = p % n in
+          let l : u < n = state-of p in
+          let touches : linksTo links (turned .gone) u ≡ true =
+          and-make (lt-ltb u n l)
+          (any-make 32 (λ i. members (getD links u 0) i && members (turned .gone) i) o (omega (arith, sound .few-states)) (and-make link lost)) in
+          let called : shaken (p / n) ≡ true =
+          any-make 32 (λ x. members (getD ts' (p / n) 0) x && linksTo links (turned .gone) x) u (omega (arith, sound .few-states)) (and-make held touches) in
+          clash (and-make (joins-precedes (p / n) v (subst (λ (x : ℕ). joins maxNodes es (p / n) x ≡ true) e edge)) called) apart)
+          (split (T ts' q)))
+          (λ (e : q / n ≡ v → ⊥). or-r (S q) (left-away q e ∙ h))
+          (at-v-or q))
+          (or-take (S q) (T ts q) old)
+
+      -- a pair that is left and was supported is supported still, unless its node is called in
+      unmoved : (p : ℕ) → In (T ts') p → (precedes es v (p / n) && shaken (p / n)) ≡ false → In (supported s (union S (T ts))) p
+          → In (supported s (union S (T ts'))) p
+      unmoved p held apart h =
           supported-make s (union S (T ts')) p
           (λ o l d.
           let w = supported-take s (union S (T ts)) p h o l d in
           let q = w .0 in
           let m = meets-take P p o q (w .2) in
-          let away : (q / n ≡ v → ⊥) = λ e. clash (joins-precedes (p / n) v (subst (λ (x : ℕ). joins maxNodes es (p / n) x ≡ true) e (m .1))) apart in
-          (q, w .1, w .2, ap (λ (b : Bool). S q || b) (left-away q away) ∙ w .3))
+          (q, w .1, w .2, carrier-left p o q held l d (sym (m .0)) (m .1) (w .3) apart))
 
       was-supported : Supports ts ws → (p : ℕ) → p < nodes * n → In (T ts') p → without (waits ws) v (p / n) ≡ false → In (supported s (union S (T ts))) p
       was-supported sup p l h out =
@@ -245,17 +300,13 @@ module _ (nodes : ℕ) (links es : List ℕ) (sound : Sound nodes links es) wher
           (at-v-or p)
 
       turn-supports : Supports ts ws → Supports ts' ws'
-      unfolding changed
+      unfolding shaken
       turn-supports sup p l h idle =
-          let now : waits ws' (p / n) ≡ (without (waits ws) v (p / n) || (changed && precedes es v (p / n))) = ap (λ (X : Set). X (p / n)) (turned .waiting) in
-          let both : (without (waits ws) v (p / n) || (changed && precedes es v (p / n))) ≡ false = sym now ∙ idle in
-          let out = refuted (without (waits ws) v (p / n)) (λ k. clash (or-l (changed && precedes es v (p / n)) k) both) in
-          let sees = refuted (changed && precedes es v (p / n)) (λ k. clash (or-r (without (waits ws) v (p / n)) k) both) in
-          let old = was-supported sup p l h out in
-          ⊎-elim
-          (λ c. unmoved p (refuted (precedes es v (p / n)) (λ k. clash (and-make c k) sees)) old)
-          (λ c. subst (λ (X : Set). In (supported s (union S X)) p) (sym (same-table c)) old)
-          (split changed)
+          let now : waits ws' (p / n) ≡ (without (waits ws) v (p / n) || (precedes es v (p / n) && shaken (p / n))) = ap (λ (X : Set). X (p / n)) (turned .waiting) in
+          let both : (without (waits ws) v (p / n) || (precedes es v (p / n) && shaken (p / n))) ≡ false = sym now ∙ idle in
+          let out = refuted (without (waits ws) v (p / n)) (λ k. clash (or-l (precedes es v (p / n) && shaken (p / n)) k) both) in
+          let apart = refuted (precedes es v (p / n) && shaken (p / n)) (λ k. clash (or-r (without (waits ws) v (p / n)) k) both) in
+          unmoved p h apart (was-supported sup p l h out)
 
       -- ---- each look has fewer pairs left, or fewer nodes that wait
 
@@ -282,7 +333,7 @@ module _ (nodes : ℕ) (links es : List ℕ) (sound : Sound nodes links es) wher
 
       turn-less : v < nodes → waits ws v ≡ true
           → 513 * count (nodes * n) (T ts') + count maxNodes (waits ws') < 513 * count (nodes * n) (T ts) + count maxNodes (waits ws)
-      unfolding changed
+      unfolding changed shaken
       turn-less inside waiting =
           ⊎-elim
           (λ c.
@@ -297,7 +348,11 @@ module _ (nodes : ℕ) (links es : List ℕ) (sound : Sound nodes links es) wher
           (λ c.
           let idle : waits ws' ≡ without (waits ws) v =
           turned .waiting
-          ∙ fun-ext (λ w. ap (λ (b : Bool). without (waits ws) v w || (b && precedes es v w)) c ∙ or-false (without (waits ws) v w)) in
+          ∙ fun-ext
+          (λ w.
+          ap (λ (b : Bool). without (waits ws) v w || (precedes es v w && b)) (unshaken c w)
+          ∙ ap (λ (b : Bool). without (waits ws) v w || b) (and-false (precedes es v w))
+          ∙ or-false (without (waits ws) v w)) in
           let fewer-nodes : count maxNodes (without (waits ws) v) < count maxNodes (waits ws) =
           without-falls maxNodes (waits ws) v (omega (arith, sound .few-nodes)) waiting in
           rw (same-table c, idle) (omega arith))

@@ -2,20 +2,21 @@
 use Prim.Native.Nat.{ℕ, zero, suc, _+_, _-_, _*_, _/_, _%_, _<_, _≤_}
 use native.Mathlib.Omega.{arith}
 use mathlib.Core.Path.{_≡_, refl, sym, _∙_, ap}
-use mathlib.Core.Bool.{Bool, true, false, not, _&&_, _||_, or-false}
+use mathlib.Core.Bool.{Bool, true, false, not, _&&_, _||_, and-false, or-false}
 use mathlib.Core.Path.{fun-ext}
 use mathlib.Core.List.{List}
-use lib.Dec.{eqb}
 use lib.ListN.{length, getD, set, take, drop, replicate, length-set}
 use lib.Seq.{getD-set-same, getD-set-other}
-use borrow.Author.Tests.{eq-eqb, ne-eqb}
-use Rattle.simulation.specs.Sets.{Set, without}
+use Rattle.simulation.specs.Sets.{Set, minus, without, anyBelow}
 use Rattle.simulation.specs.Ordered.{from}
-use Rattle.bits.specs.Word.{members}
+use Rattle.simulation.proofs.Sets.{clash, refuted, any-take}
+use Rattle.bits.specs.Word.{members, meets}
+use Rattle.bits.proofs.Words.{zero-members}
 use Rattle.session.specs.Limits.{maxNodes}
 use Rattle.session.specs.Layout.{below}
 use Rattle.session.proofs.Tables.{below-make}
-use Rattle.refinement.specs.Tables.{keptOf, edgesFrom, waits, precedes, Sound, Turned}
+use Rattle.refinement.specs.Tables.{linksTo, keptOf, edgesFrom, waits, precedes, Sound, Turned}
+use Rattle.refinement.proofs.Linked.{links-none}
 
 -- a table that was just made is zero everywhere
 pub zeros : (n v : ℕ) → getD {A = ℕ} (replicate n 0) v 0 ≡ 0
@@ -40,29 +41,31 @@ sound-wider nodes links es s = record {
 }
 
 -- the edges of v, by the two ends of their range
-pub kept-range : (links es ss ts : List ℕ) (v low high left : ℕ) → low ≡ from maxNodes es v → high ≡ from maxNodes es (v + 1)
-    → members left ≡ keptOf (getD ts v 0) links (take (high - low) (drop low es)) ss ts
-    → members left ≡ keptOf (getD ts v 0) links (edgesFrom es v) ss ts
+pub range-from : (es : List ℕ) (v low high : ℕ) → low ≡ from maxNodes es v → high ≡ from maxNodes es (v + 1) → take (high - low) (drop low es) ≡ edgesFrom es v
 unfolding edgesFrom
-kept-range links es ss ts v low high left low-is high-is kept = rw (low-is, high-is) at kept
+range-from es v low high low-is high-is = rw (low-is, high-is) refl
 
 module _ (links es ss ts ws : List ℕ) (v : ℕ) (inside : v < length ts) (ws₁ : List ℕ) (long : length ws₁ ≡ length ws)
     (out : waits ws₁ ≡ without (waits ws) v) (left : ℕ) (kept : members left ≡ keptOf (getD ts v 0) links (edgesFrom es v) ss ts) where
-  -- pairs were cleared, and the predecessors are called in
-  pub turned-cleared : (ws' : List ℕ) → length ws' ≡ length ws → (left ≡ getD ts v 0 → ⊥) → waits ws' ≡ (λ w. waits ws₁ w || precedes es v w)
+  -- pairs were cleared, and the predecessors that hold a state with a link to one that went are called in
+  pub turned-cleared : (ws' : List ℕ) (gone shaken : ℕ) → length ws' ≡ length ws → members gone ≡ minus (members (getD ts v 0)) (members left)
+      → members shaken ≡ linksTo links gone
+      → waits ws' ≡ (λ w. waits ws₁ w || (precedes es v w && meets (getD (set ts v left) w 0) shaken))
       → Turned links es ss ts ws v (set ts v left) ws'
-  turned-cleared ws' long' ne called =
+  turned-cleared ws' gone shaken long' lost shakes called =
       let here : getD (set ts v left) v 0 ≡ left = getD-set-same ts v left 0 inside in
       record {
         table-long = length-set ts v left;
         waits-long = long';
         others = λ w away. getD-set-other ts v w left 0 away;
         here = ap members here ∙ kept;
+        gone = gone;
+        went = lost ∙ ap (λ (x : ℕ). minus (members (getD ts v 0)) (members x)) (sym here);
         waiting = called
             ∙ fun-ext
             (λ w.
-            ap (λ (X : Set). X w || precedes es v w) out
-            ∙ ap (λ (b : Bool). without (waits ws) v w || (not b && precedes es v w)) (sym (ap (λ (x : ℕ). eqb x (getD ts v 0)) here ∙ ne-eqb left (getD ts v 0) ne)));
+            ap (λ (X : Set). X w || (precedes es v w && meets (getD (set ts v left) w 0) shaken)) out
+            ∙ ap (λ (Y : Set). without (waits ws) v w || (precedes es v w && anyBelow 32 (λ u. members (getD (set ts v left) w 0) u && Y u))) shakes);
       }
 
   -- nothing was cleared
@@ -72,10 +75,22 @@ module _ (links es ss ts ws : List ℕ) (v : ℕ) (inside : v < length ts) (ws�
     waits-long = long;
     others = λ w away. refl;
     here = ap members (sym e) ∙ kept;
+    gone = 0;
+    went = fun-ext (λ u. zero-members u ∙ sym (and-not (members (getD ts v 0) u)));
     waiting = out
         ∙ fun-ext
         (λ w.
         sym
-        (ap (λ (b : Bool). without (waits ws) v w || (not b && precedes es v w)) (eq-eqb (getD ts v 0) (getD ts v 0) refl)
+        (ap (λ (b : Bool). without (waits ws) v w || b)
+        (ap (λ (X : Set). precedes es v w && anyBelow 32 X) (fun-ext (λ u. ap (λ (b : Bool). members (getD ts w 0) u && b) (links-none links u) ∙ and-false (members (getD ts w 0) u)))
+        ∙ ap (λ (b : Bool). precedes es v w && b) (any-none 32)
+        ∙ and-false (precedes es v w))
         ∙ or-false (without (waits ws) v w)));
   }
+    where
+      and-not : (b : Bool) → (b && not b) ≡ false
+      and-not true = refl
+      and-not false = refl
+
+      any-none : (k : ℕ) → anyBelow k (λ u. false) ≡ false
+      any-none k = refuted (anyBelow k (λ u. false)) (λ h. clash (any-take k (λ u. false) h .2) refl)

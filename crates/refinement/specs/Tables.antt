@@ -1,22 +1,32 @@
--- What the inner loops compute: tables of marks, the edges of a node, the nodes that wait, the index of incoming edges. Inner contracts cite these.
+-- What the inner loops compute: tables of marks, the edges of a node, the nodes that wait, the indexes of edges. Inner contracts cite these.
 use Prim.Native.Nat.{ℕ, zero, suc, _+_, _-_, _*_, _/_, _%_, _<_}
 use mathlib.Core.Path.{_≡_}
 use mathlib.Core.Bool.{Bool, true, false, not, _&&_, _||_, cond}
 use mathlib.Core.List.{List}
 use lib.Dec.{ltb, eqb}
 use lib.ListN.{length, getD, take, drop}
-use Rattle.simulation.specs.Sets.{Set, In, union, without, anyBelow, allBelow, count}
+use Rattle.simulation.specs.Sets.{Set, In, union, minus, without, anyBelow, allBelow, count}
 use Rattle.simulation.specs.Search.{found}
 use Rattle.simulation.specs.Ordered.{ascends, from, joins}
 use Rattle.simulation.specs.System.{supported, refined}
 use Rattle.simulation.specs.Pattern.{Pattern, paired, system, plain}
-use Rattle.bits.specs.Word.{members}
+use Rattle.bits.specs.Word.{members, meets}
 use Rattle.session.specs.Limits.{maxStates, maxNodes, maxEdges, wordBits}
 use Rattle.session.specs.Trigger.{Marks, agrees}
 
 -- a table has a word for each node: the states marked there
 abbrev pub marked : List ℕ → Marks
 marked ts u v = members (getD ts v 0) u
+
+-- ---- links
+
+-- the states to which a state of the word w has a link
+abbrev pub linkedFrom : List ℕ → ℕ → Set
+linkedFrom links w o = anyBelow (length links) (λ u. members w u && members (getD links u 0) o)
+
+-- the states with a link to a state of the word w
+abbrev pub linksTo : List ℕ → ℕ → Set
+linksTo links w u = ltb u (length links) && meets (getD links u 0) w
 
 -- ---- support
 
@@ -31,6 +41,10 @@ whole n set es ss ts = allBelow n (λ o. not (members set o) || carried es ss ts
 -- the states of the word w that keep their support at a node with the edges es
 abbrev pub keptOf : ℕ → List ℕ → List ℕ → List ℕ → List ℕ → Set
 keptOf w links es ss ts u = members w u && (not (ltb u (length links)) || whole (length links) (getD links u 0) es ss ts)
+
+-- the states to which the word w has links, and to which no edge leads
+abbrev pub unmetOf : ℕ → List ℕ → List ℕ → List ℕ → List ℕ → Set
+unmetOf w links es ss ts o = (linkedFrom links w o && ltb o (length links)) && not (carried es ss ts o)
 
 -- the edges from v
 unfoldable pub edgesFrom : List ℕ → ℕ → List ℕ
@@ -62,6 +76,27 @@ pub record Indexed (es heads nexts : List ℕ) : Type 0 where
 unfoldable pub precedes : List ℕ → ℕ → Set
 precedes es v w = anyBelow (length es) (λ k. endsAt es v k && eqb (getD es k 0 / maxNodes) w)
 
+-- ---- the index of outgoing edges
+
+abbrev pub startsAt : List ℕ → ℕ → Set
+startsAt es v k = eqb (getD es k 0 / maxNodes) v
+
+-- after each node one more than its last edge, and 0 where it has none
+pub record Noted (es firsts : List ℕ) : Type 0 where
+  pub long : length firsts ≡ 513
+  pub none : getD firsts 0 0 ≡ 0
+  pub noted : (v : ℕ) → v < maxNodes → getD firsts (v + 1) 0 ≡ last (startsAt es v) (length es)
+
+-- the entry at v, and where it is 0 the one before it that is not
+unfoldable pub filled : List ℕ → ℕ → ℕ
+filled xs zero = getD xs 0 0
+filled xs (suc v) = cond (eqb (getD xs (suc v) 0) 0) (filled xs v) (getD xs (suc v) 0)
+
+-- for each node the place of its first edge, and after the last node the number of edges
+pub record Started (es firsts : List ℕ) : Type 0 where
+  pub long : length firsts ≡ 513
+  pub first : (v : ℕ) → v < suc maxNodes → getD firsts v 0 ≡ from maxNodes es v
+
 -- ---- refinement
 
 -- ascending edges between nodes
@@ -74,13 +109,15 @@ pub record Sound (nodes : ℕ) (links es : List ℕ) : Type 0 where
   pub starts : (k : ℕ) → k < length es → getD es k 0 / maxNodes < nodes
   pub ends : (k : ℕ) → k < length es → getD es k 0 % maxNodes < nodes
 
--- one look at the node v
+-- one look at the node v: where states went, the predecessors wait that hold one with a link to such a state
 pub record Turned (links es ss ts ws : List ℕ) (v : ℕ) (ts' ws' : List ℕ) : Type 0 where
   pub table-long : length ts' ≡ length ts
   pub waits-long : length ws' ≡ length ws
   pub others : (w : ℕ) → (w ≡ v → ⊥) → getD ts' w 0 ≡ getD ts w 0
   pub here : members (getD ts' v 0) ≡ keptOf (getD ts v 0) links (edgesFrom es v) ss ts
-  pub waiting : waits ws' ≡ (λ w. without (waits ws) v w || (not (eqb (getD ts' v 0) (getD ts v 0)) && precedes es v w))
+  pub gone : ℕ
+  pub went : members gone ≡ minus (members (getD ts v 0)) (members (getD ts' v 0))
+  pub waiting : waits ws' ≡ (λ w. without (waits ws) v w || (precedes es v w && anyBelow 32 (λ u. members (getD ts' w 0) u && linksTo links gone u)))
 
 -- links and edges as a pattern, and a table as a set of its pairs
 abbrev pub patternOf : ℕ → List ℕ → List ℕ → Pattern

@@ -1,4 +1,6 @@
 // The table of admitted pairs, and its refinement from the nodes that wait.
+pub mod links;
 pub mod refine;
+pub mod starts;
 pub mod table;
 pub mod worklist;

@@ -1,93 +1,133 @@
 // Refinement: tentative pairs that the settled and the tentative pairs do not support are cleared, node by node, until none is left.
 ghost use mathlib.Core.Path.{_≡_};
-ghost use mathlib.Core.Bool.{true};
+ghost use mathlib.Core.Bool.{true, not, _&&_};
 ghost use Prim.Native.Nat.{ℕ, _<_, _≤_, _^_};
-ghost use lib.ListN.{length, getD};
+ghost use lib.ListN.{length, getD, replicate};
 ghost use Rattle.bits.specs.Word.{members};
-ghost use Rattle.session.specs.Limits.{maxNodes};
+ghost use Rattle.simulation.specs.Ordered.{ascends};
+ghost use Rattle.session.specs.Limits.{maxEdges, maxNodes};
 ghost use Rattle.session.specs.Layout.{below};
-ghost use Rattle.refinement.specs.Tables.{marked, whole, keptOf, edgesFrom, Indexed, Sound, Turned, Settled};
+ghost use Rattle.refinement.specs.Tables.{marked, carried, keptOf, unmetOf, edgesFrom, Started, Indexed, Sound, Turned, Settled};
+use super::links::linked;
+use super::links::linking;
+use super::starts::STARTS;
+use super::starts::index_starts;
 use super::worklist::call_in;
+use super::worklist::index;
 use super::worklist::lowest_in;
-use super::worklist::put_in;
 use super::worklist::take_out;
 
-// Whether each link of the set has a carrier among the edges of a node. The search for one ends at the first found.
-pub fn supported(links: u32, states: u32, edges: &[u32], settled: &[u32], tentative: &[u32]) -> bool
-    requires { ⌜ (states ≤ 32) × (length (now settled) ≡ maxNodes) × (length (now tentative) ≡ maxNodes) ⌝ }
-    ensures { λ r. ⌜ r ≡ whole states links (now (edges .entry)) (now (settled .entry)) (now (tentative .entry)) ⌝ }
+// The links of the set without a carrier among the edges of a node. The search for one ends at the first found, and an edge is looked at once: it
+// strikes off every link that it carries.
+pub fn missing(set: u32, edges: &[u32], settled: &[u32], tentative: &[u32]) -> u32
+    requires { ⌜ (length (now settled) ≡ maxNodes) × (length (now tentative) ≡ maxNodes) ⌝ }
+    ensures { λ r. ⌜ ((o : ℕ) → members r o ≡ (members set o && not (carried (now (edges .entry)) (now (settled .entry)) (now (tentative .entry)) o))) ⌝ }
 {
-    let mut whole = true;
-    let mut i: u32 = 0;
-    'links: while i < states {
-        if bits::has(links, i) {
-            let mut k = 0;
-            let _carrier = loop {
-                if edges.len() <= k {
-                    whole = false;
-                    break 'links;
-                }
-                let end = (edges[k] % session::EDGE_BASE) as usize;
-                if bits::has(settled[end] | tentative[end], i) {
-                    break k;
-                }
-                k += 1;
-            };
-        }
-        i += 1;
+    let mut rest = set;
+    let mut k = 0;
+    'links: while rest != 0 {
+        let link = bits::lowest(rest);
+        let carrier = loop {
+            if edges.len() <= k {
+                break 'links;
+            }
+            let end = (edges[k] % session::EDGE_BASE) as usize;
+            rest = bits::difference(rest, settled[end] | tentative[end]);
+            if !bits::has(rest, link) {
+                break k;
+            }
+            k += 1;
+        };
+        k = carrier + 1;
     }
-    whole
+    rest
 }
 
-// The states of the word that keep their support at a node with these edges.
+// The states to which the word has links, and to which no edge of a node leads.
+pub fn unmet(word: u32, links: &[u32], edges: &[u32], settled: &[u32], tentative: &[u32]) -> u32
+    requires { ⌜ (length (now links) ≤ 32) × (length (now settled) ≡ maxNodes) × (length (now tentative) ≡ maxNodes) ⌝ }
+    ensures { λ r. ⌜ members r ≡ unmetOf word (now (links .entry)) (now (edges .entry)) (now (settled .entry)) (now (tentative .entry)) ⌝ }
+{
+    let needed = linked(links, word) & bits::below(links.len() as u32);
+    missing(needed, edges, settled, tentative)
+}
+
+// The edges of the node v: their range is found by halving.
+pub fn edges_from(edges: &[u32], v: usize) -> &[u32]
+    requires { ⌜ (ascends (now edges) ≡ true) × (length (now edges) ≤ maxEdges) × (v < maxNodes) ⌝ }
+    ensures { λ r. ⌜ now r ≡ edgesFrom (now (edges .entry)) v ⌝ }
+{
+    let low = session::first_edge(edges, v as u32);
+    let high = session::first_edge(edges, v as u32 + 1);
+    &edges[low..high]
+}
+
+// The states of the word that keep their support at a node with these edges: those without a link that is not met.
 pub fn kept(word: u32, links: &[u32], edges: &[u32], settled: &[u32], tentative: &[u32]) -> u32
     requires { ⌜ (length (now links) ≤ 32) × (length (now settled) ≡ maxNodes) × (length (now tentative) ≡ maxNodes) ⌝ }
     ensures { λ r. ⌜ members r ≡ keptOf word (now (links .entry)) (now (edges .entry)) (now (settled .entry)) (now (tentative .entry)) ⌝ }
 {
-    let states = links.len() as u32;
-    let mut left = word;
-    let mut u: u32 = 0;
-    while u < states {
-        if bits::has(word, u) {
-            if !supported(links[u as usize], states, edges, settled, tentative) {
-                left = bits::removed(left, u);
-            }
-        }
-        u += 1;
+    let lacking = unmet(word, links, edges, settled, tentative);
+    if lacking == 0 {
+        return word;
     }
-    left
+    bits::difference(word, linking(links, lacking))
 }
 
-// The states that keep their support at the node v: its range of edges is found once.
-pub fn left_at(links: &[u32], edges: &[u32], settled: &[u32], tentative: &[u32], v: usize) -> u32
-    requires { ⌜ (length (now settled) ≡ maxNodes) × (length (now tentative) ≡ maxNodes) × (v < maxNodes) × Sound maxNodes (now links) (now edges) ⌝ }
+// The edges of the node v: by the index of first edges, or by halving where there is none.
+pub fn edges_at<'a>(edges: &'a [u32], firsts: &[u32], v: usize) -> &'a [u32]
+    requires { ⌜ (ascends (now edges) ≡ true) × (length (now edges) ≤ maxEdges) × (v < maxNodes) ⌝ }
+    requires { ⌜ ((length (now firsts) ≡ 0 → ⊥) → Started (now edges) (now firsts)) ⌝ }
+    ensures { λ r. ⌜ now r ≡ edgesFrom (now (edges .entry)) v ⌝ }
+{
+    if firsts.len() == 0 {
+        return edges_from(edges, v);
+    }
+    let low = firsts[v] as usize;
+    let high = firsts[v + 1] as usize;
+    &edges[low..high]
+}
+
+// The states that keep their support at the node v.
+pub fn left_at(
+    links: &[u32],
+    edges: &[u32],
+    firsts: &[u32],
+    settled: &[u32],
+    tentative: &[u32],
+    v: usize,
+) -> u32
+    requires { ⌜ (length (now settled) ≡ maxNodes) × (length (now tentative) ≡ maxNodes) × (v < maxNodes) × (length (now links) ≤ 32) ⌝ }
+    requires { ⌜ (ascends (now edges) ≡ true) × (length (now edges) ≤ maxEdges) × ((length (now firsts) ≡ 0 → ⊥) → Started (now edges) (now firsts)) ⌝ }
     ensures { λ r. ⌜ members r ≡ keptOf (getD (now (tentative .entry)) v 0) (now (links .entry)) (edgesFrom (now (edges .entry)) v) (now (settled .entry)) (now (tentative .entry)) ⌝ }
 {
-    let low = session::first_edge(edges, v as u32);
-    let high = session::first_edge(edges, v as u32 + 1);
-    kept(tentative[v], links, &edges[low..high], settled, tentative)
+    let out = edges_at(edges, firsts, v);
+    kept(tentative[v], links, out, settled, tentative)
 }
 
-// Looks at the node v, which no longer waits; where pairs are cleared there, its predecessors are called in.
+// Looks at the node v, which no longer waits; where pairs are cleared there, the predecessors that may have stood on them are called in.
 pub fn turn(
     links: &[u32],
     edges: &[u32],
     settled: &[u32],
     tentative: &mut [u32],
     waiting: &mut [u32],
+    firsts: &[u32],
     heads: &[u32],
     nexts: &[u32],
     v: usize,
 )
     requires { ⌜ (length (now settled) ≡ maxNodes) × (length (now tentative) ≡ maxNodes) × (length (now waiting) ≡ 16) × (v < maxNodes) ⌝ }
-    requires { ⌜ Sound maxNodes (now links) (now edges) × Indexed (now edges) (now heads) (now nexts) ⌝ }
+    requires { ⌜ Sound maxNodes (now links) (now edges) × ((length (now firsts) ≡ 0 → ⊥) → Started (now edges) (now firsts)) × Indexed (now edges) (now heads) (now nexts) ⌝ }
     ensures { λ r. ⌜ Turned (now (links .entry)) (now (edges .entry)) (now (settled .entry)) (now (tentative .entry)) (now (waiting .entry)) v (now (tentative .exit)) (now (waiting .exit)) ⌝ }
 {
     take_out(waiting, v);
-    let left = left_at(links, edges, settled, tentative, v);
-    if left != tentative[v] {
+    let word = tentative[v];
+    let left = left_at(links, edges, firsts, settled, tentative, v);
+    if left != word {
         tentative[v] = left;
-        call_in(waiting, edges, heads, nexts, v);
+        let shaken = linking(links, bits::difference(word, left));
+        call_in(waiting, edges, heads, nexts, v, tentative, shaken);
     }
 }
 
@@ -99,16 +139,58 @@ pub fn refine(
     settled: &[u32],
     tentative: &mut [u32],
     waiting: &mut [u32],
+    firsts: &[u32],
     heads: &[u32],
     nexts: &[u32],
 )
     requires { ⌜ (length (now settled) ≡ maxNodes) × (length (now tentative) ≡ maxNodes) × (length (now waiting) ≡ 16) ⌝ }
-    requires { ⌜ Sound nodes (now links) (now edges) × Indexed (now edges) (now heads) (now nexts) × ((u v : ℕ) → marked (now tentative) u v ≡ true → v < nodes) ⌝ }
+    requires { ⌜ Sound nodes (now links) (now edges) × ((length (now firsts) ≡ 0 → ⊥) → Started (now edges) (now firsts)) × Indexed (now edges) (now heads) (now nexts) × ((u v : ℕ) → marked (now tentative) u v ≡ true → v < nodes) ⌝ }
     ensures { λ r. ⌜ Settled nodes (now (links .entry)) (now (edges .entry)) (now (settled .entry)) (now (tentative .entry)) (now (waiting .entry)) (now (tentative .exit)) ⌝ }
 {
     let mut v = lowest_in(waiting);
     while v < nodes {
-        turn(links, edges, settled, tentative, waiting, heads, nexts, v);
+        turn(
+            links,
+            edges,
+            settled,
+            tentative,
+            waiting,
+            firsts,
+            heads,
+            nexts,
+            v,
+        );
         v = lowest_in(waiting);
     }
+}
+
+// Refines a table with nothing settled beside it; the indexes are built here.
+pub fn refine_alone(
+    links: &[u32],
+    edges: &[u32],
+    nodes: usize,
+    tentative: &mut [u32],
+    waiting: &mut [u32],
+)
+    requires { ⌜ (length (now tentative) ≡ maxNodes) × (length (now waiting) ≡ 16) ⌝ }
+    requires { ⌜ Sound nodes (now links) (now edges) × ((u v : ℕ) → marked (now tentative) u v ≡ true → v < nodes) ⌝ }
+    ensures { λ r. ⌜ Settled nodes (now (links .entry)) (now (edges .entry)) (replicate maxNodes 0) (now (tentative .entry)) (now (waiting .entry)) (now (tentative .exit)) ⌝ }
+{
+    let mut firsts = [0u32; STARTS];
+    index_starts(edges, &mut firsts);
+    let mut heads = [0u32; session::MAX_NODES];
+    let mut nexts = [0u32; session::MAX_EDGES];
+    index(edges, &mut heads, &mut nexts);
+    let settled = [0u32; session::MAX_NODES];
+    refine(
+        links,
+        edges,
+        nodes,
+        &settled,
+        tentative,
+        waiting,
+        &firsts,
+        &heads,
+        &nexts,
+    );
 }

@@ -7,18 +7,18 @@ ghost use Rattle.session.specs.Limits.{maxNodes, maxStates, wordBits};
 ghost use Rattle.session.specs.Layout.{below};
 ghost use Rattle.refinement.specs.Tables.{Admits, Admitted};
 
-// Puts a state into the words of the nodes that it admits; how many they are.
+// Puts a state into the words of the nodes that it admits; how many they are. Each word is stored, so there is no branch.
 pub fn admit(samples: &[u32], mask: u32, value: u32, u: u32, table: &mut [u32]) -> u32
     requires { ⌜ (mask < 2 ^ wordBits) × (u < 32) × (length (now samples) ≤ length (now table)) × (length (now samples) ≤ maxNodes) ⌝ }
     ensures { λ r. ⌜ Admits (now (samples .entry)) mask value u (now (table .entry)) r (now (table .exit)) ⌝ }
 {
+    let bit = bits::only(u);
     let mut count = 0;
     let mut v = 0;
     while v < samples.len() {
-        if (value ^ samples[v]) & mask == 0 {
-            table[v] = bits::added(table[v], u);
-            count += 1;
-        }
+        let hit = (value ^ samples[v]) & mask == 0;
+        table[v] = table[v] | session::picked(bit, hit);
+        count += session::picked(1, hit);
         v += 1;
     }
     count

@@ -1,10 +1,11 @@
 // The nodes that must be looked at again, as a set, and the index of incoming edges by which a node calls its predecessors in.
 ghost use mathlib.Core.Path.{_≡_};
-ghost use mathlib.Core.Bool.{true, _||_};
+ghost use mathlib.Core.Bool.{true, _&&_, _||_};
 ghost use Prim.Native.Nat.{ℕ, _<_, _≤_};
 ghost use lib.ListN.{length, getD};
 ghost use Rattle.simulation.specs.Sets.{also, without};
 ghost use Rattle.simulation.specs.Search.{first};
+ghost use Rattle.bits.specs.Word.{meets};
 ghost use Rattle.session.specs.Limits.{maxEdges, maxNodes};
 ghost use Rattle.session.specs.Layout.{below};
 ghost use Rattle.refinement.specs.Tables.{waits, Indexed, precedes};
@@ -59,16 +60,27 @@ pub fn index(edges: &[u32], heads: &mut [u32], nexts: &mut [u32])
     }
 }
 
-// Puts every node in that has an edge to this one.
-pub fn call_in(waiting: &mut [u32], edges: &[u32], heads: &[u32], nexts: &[u32], node: usize)
-    requires { ⌜ (length (now waiting) ≡ 16) × (node < maxNodes) × (length (now edges) ≤ maxEdges) ⌝ }
+// Puts every node in that has an edge to this one, and in a table a state of the word.
+pub fn call_in(
+    waiting: &mut [u32],
+    edges: &[u32],
+    heads: &[u32],
+    nexts: &[u32],
+    node: usize,
+    table: &[u32],
+    word: u32,
+)
+    requires { ⌜ (length (now waiting) ≡ 16) × (node < maxNodes) × (length (now edges) ≤ maxEdges) × (length (now table) ≡ maxNodes) ⌝ }
     requires { ⌜ (below 262144 (now edges) ≡ true) × Indexed (now edges) (now heads) (now nexts) ⌝ }
-    ensures { λ r. ⌜ (length (now (waiting .exit)) ≡ 16) × (waits (now (waiting .exit)) ≡ (λ w. waits (now (waiting .entry)) w || precedes (now (edges .entry)) node w)) ⌝ }
+    ensures { λ r. ⌜ (length (now (waiting .exit)) ≡ 16) × (waits (now (waiting .exit)) ≡ (λ w. waits (now (waiting .entry)) w || (precedes (now (edges .entry)) node w && meets (getD (now (table .entry)) w 0) word))) ⌝ }
 {
     let mut next = heads[node] as usize;
     while next != 0 {
         let k = next - 1;
-        put_in(waiting, (edges[k] / session::EDGE_BASE) as usize);
+        let start = (edges[k] / session::EDGE_BASE) as usize;
+        if bits::meet(table[start], word) {
+            put_in(waiting, start);
+        }
         next = nexts[k] as usize;
     }
 }

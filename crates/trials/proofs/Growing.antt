@@ -21,9 +21,9 @@ use Rattle.simulation.proofs.Loops.{grown-whole, without-falls}
 use Rattle.simulation.proofs.Search.{first-at, first-before}
 use Rattle.bits.specs.Word.{members}
 use Rattle.session.specs.Limits.{maxNodes}
-use Rattle.refinement.specs.Tables.{marked, waits, precedes, Sound, patternOf, tabled}
+use Rattle.refinement.specs.Tables.{linksTo, marked, waits, precedes, Sound, patternOf, tabled}
 use Rattle.refinement.proofs.Settling.{fewer, joins-precedes, precedes-joins}
-use Rattle.trials.specs.Growth.{linksTo, Spread, Grown}
+use Rattle.trials.specs.Growth.{Spread, Grown}
 
 -- what holds before each look, where v is the lowest node that waits
 pub record Growing (nodes : ℕ) (links es fs seeds ts ws : List ℕ) (v : ℕ) : Type 0 where

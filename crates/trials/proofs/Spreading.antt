@@ -1,4 +1,4 @@
--- One look at a node: the states with a link to it, a node that gains some, and the predecessors one by one.
+-- One look at a node: a node that gains states, and the predecessors one by one.
 use Prim.Native.Nat.{ℕ, _+_, _-_, _/_, _^_, _<_}
 use native.Mathlib.Nat.{lt-of-le-of-lt}
 use native.Mathlib.Omega.{arith}
@@ -16,43 +16,9 @@ use Rattle.simulation.proofs.Sets.{split, same, or-l, not-take}
 use Rattle.bits.specs.Word.{members}
 use Rattle.bits.proofs.Words.{zero-members, and-members, same-members}
 use Rattle.bits.proofs.Tests.{empty-any}
-use Rattle.refinement.specs.Tables.{marked, waits, Indexed, Sound}
+use Rattle.refinement.specs.Tables.{linksTo, marked, waits, Indexed, Sound}
 use Rattle.refinement.proofs.Incoming.{Chained, chained-head, chained-next, called, called-head, called-next, called-all}
-use Rattle.trials.specs.Growth.{linksTo, Tried, Spread}
-use Rattle.trials.proofs.Tabling.{gained-none, gained-more, gained-pass}
-
--- ---- the states with a link to a state of a word, those below u tested
-
-module _ (links : List ℕ) (word : ℕ) where
-  -- u has such a link
-  abbrev touches : Set
-  touches u = anyBelow 32 (λ o. members (getD links u 0) o && members word o)
-
-  abbrev pub linkedTo : ℕ → Set
-  linkedTo u x = ltb x u && touches x
-
-  touches-test : (u : ℕ) → getD links u 0 < 2 ^ 32 → eqb (bitAnd (getD links u 0) word) 0 ≡ not (touches u)
-  touches-test u h =
-      empty-any 32 (bitAnd (getD links u 0) word) (lt-of-le-of-lt (and-le-l (getD links u 0) word) h)
-      ∙ ap (λ (X : Set). not (anyBelow 32 X)) (fun-ext (λ o. and-members (getD links u 0) word o))
-
-  pub linked-none : members 0 ≡ linkedTo 0
-  linked-none = fun-ext zero-members ∙ gained-none none touches
-
-  module _ (u all : ℕ) (small : getD links u 0 < 2 ^ 32) (e : members all ≡ linkedTo u) where
-    pub linked-more : (all' : ℕ) → (bitAnd (getD links u 0) word ≡ 0 → ⊥) → members all' ≡ also (members all) u → members all' ≡ linkedTo (u + 1)
-    linked-more all' some m = gained-more none touches u e taken m
-      where
-        off : (b : Bool) → not b ≡ false → b ≡ true
-        off true h = refl
-        off false h = sym h
-
-        taken : touches u ≡ true
-        taken = off (touches u) (sym (touches-test u small) ∙ ne-eqb (bitAnd (getD links u 0) word) 0 some)
-
-    pub linked-pass : bitAnd (getD links u 0) word ≡ 0 → members all ≡ linkedTo (u + 1)
-    linked-pass zero =
-        gained-pass none touches u e (not-take (touches u) (sym (touches-test u small) ∙ eq-eqb (bitAnd (getD links u 0) word) 0 zero))
+use Rattle.trials.specs.Growth.{Tried, Spread}
 
 -- ---- a node that gains states
 

@@ -21,45 +21,7 @@ use Rattle.bits.proofs.Counts.{count-beyond}
 use Rattle.session.specs.Trigger.{agrees}
 use Rattle.refinement.specs.Tables.{marked}
 use Rattle.refinement.proofs.Admitting.{more-here, more-other, agrees-test}
-
--- ---- the set B, with the numbers below u that pass the test P
-
-module _ (B P : Set) where
-  abbrev pub gained : ℕ → Set
-  gained u x = B x || (ltb x u && P x)
-
-  pub gained-none : B ≡ gained 0
-  gained-none = fun-ext (λ x. sym (ap (λ (b : Bool). B x || (b && P x)) (le-ltb x 0 zero-le) ∙ or-false (B x)))
-
-  module _ (u : ℕ) {Y : Set} (e : Y ≡ gained u) where
-    away : (x : ℕ) → eqb x u ≡ false → Y x ≡ gained (u + 1) x
-    away x t = ap (λ (X : Set). X x) e ∙ ap (λ (b : Bool). B x || (b && P x)) (sym (more-other x u (eqb-false x u t)))
-
-    -- u passes, and is put in
-    pub gained-more : {Y' : Set} → P u ≡ true → Y' ≡ also Y u → Y' ≡ gained (u + 1)
-    gained-more h m =
-        m
-        ∙ fun-ext
-        (λ x.
-        ⊎-elim
-        (λ (t : eqb x u ≡ true). rw t (rw (eqb-true x u t, more-here u, h) (or-true (Y u) ∙ sym (or-true (B u)))))
-        (λ (t : eqb x u ≡ false). rw (t, or-false) (away x t))
-        (split (eqb x u)))
-
-    -- u fails
-    pub gained-pass : P u ≡ false → Y ≡ gained (u + 1)
-    gained-pass h =
-        fun-ext
-        (λ x. ⊎-elim (λ (t : eqb x u ≡ true). rw (eqb-true x u t) here) (λ (t : eqb x u ≡ false). away x t) (split (eqb x u)))
-      where
-        here : Y u ≡ gained (u + 1) u
-        here = ap (λ (X : Set). X u) e ∙ rw (h, and-false (ltb u u), and-false (ltb u (u + 1))) refl
-
--- every number that passes is below n
-pub gained-all : (B P : Set) (n : ℕ) → ((x : ℕ) → n ≤ x → P x ≡ false) → (x : ℕ) → gained B P n x ≡ (B x || P x)
-gained-all B P n h x =
-    ap (λ (b : Bool). B x || b)
-    (⊎-elim (λ (t : ltb x n ≡ true). rw t refl) (λ (t : ltb x n ≡ false). rw (t, h x (ltb-false x n t)) refl) (split (ltb x n)))
+use Rattle.refinement.proofs.Linked.{gained, gained-none, gained-more, gained-pass, gained-all}
 
 -- the nodes at which a table has a pair; none is past its end
 abbrev pub occupied : List ℕ → Set

@@ -10,11 +10,7 @@ use Rattle.simulation.specs.System.{closure}
 use Rattle.simulation.specs.Pattern.{system}
 use Rattle.bits.specs.Word.{members}
 use Rattle.session.specs.Limits.{maxNodes}
-use Rattle.refinement.specs.Tables.{marked, waits, precedes, patternOf, tabled}
-
--- the states with a link to a state of the word w
-abbrev pub linksTo : List ℕ → ℕ → Set
-linksTo links w u = ltb u (length links) && anyBelow 32 (λ o. members (getD links u 0) o && members w o)
+use Rattle.refinement.specs.Tables.{linksTo, marked, waits, precedes, patternOf, tabled}
 
 -- the states of a word are tried at the node v, which waits where it gains one
 pub record Tried (ts ws : List ℕ) (v more : ℕ) (ts' ws' : List ℕ) : Type 0 where

@@ -3,29 +3,13 @@ ghost use mathlib.Core.Path.{_≡_};
 ghost use mathlib.Core.Bool.{true};
 ghost use Prim.Native.Nat.{ℕ, _<_, _≤_};
 ghost use lib.ListN.{length};
-ghost use Rattle.bits.specs.Word.{members};
 ghost use Rattle.session.specs.Limits.{maxNodes};
 ghost use Rattle.refinement.specs.Tables.{marked, waits, Indexed, Sound};
-ghost use Rattle.trials.specs.Growth.{linksTo, Tried, Spread, Grown};
+ghost use Rattle.trials.specs.Growth.{Tried, Spread, Grown};
+use refinement::links::linking;
 use refinement::worklist::lowest_in;
 use refinement::worklist::put_in;
 use refinement::worklist::take_out;
-
-// The states with a link to a state of the word.
-pub fn linking(links: &[u32], word: u32) -> u32
-    requires { ⌜ length (now links) ≤ 32 ⌝ }
-    ensures { λ r. ⌜ members r ≡ linksTo (now (links .entry)) word ⌝ }
-{
-    let mut all = 0;
-    let mut u = 0;
-    while u < links.len() {
-        if links[u] & word != 0 {
-            all = bits::added(all, u as u32);
-        }
-        u += 1;
-    }
-    all
-}
 
 // Tries more states at a node. It waits where it gains one, for its predecessors may gain by it.
 pub fn try_at(trials: &mut [u32], waiting: &mut [u32], node: usize, more: u32)

@@ -1,13 +1,16 @@
--- The node is looked at once, beside an empty table.
-use borrow.Author.Needs.{needs}
-use native.Mathlib.Omega.{arith}
-use mathlib.Core.Path.{_≡_, refl, _∙_, ap}
-use Prim.Native.Nat.{_<_}
-use lib.ListN.{length, replicate}
-use Rattle.session.proofs.Decoded.{layout-facts}
-use Rattle.refinement.proofs.Turns.{zeros, sound-wider}
-use Rattle.reports.proofs.Held.{held-sound, marks-long}
+-- The node is looked at once, by the marks alone.
+use Prim.Native.Nat.{ℕ, _<_}
 use Rattle.editing.proofs.Steady.{steady-is}
+use Rattle.refinement.specs.Tables.{unmetOf}
+use Rattle.reports.proofs.Held.{held-sound, marks-long}
+use Rattle.session.proofs.Decoded.{layout-facts}
+use Rattle.session.specs.Layout.{triggerOf}
+use Rattle.simulation.specs.Sets.{Set}
+use borrow.Author.Needs.{needs}
+use lib.ListN.{length, getD}
+use mathlib.Core.List.{List}
+use mathlib.Core.Path.{_≡_, refl, ap, _∙_}
+use native.Mathlib.Omega.{arith}
 use Rattle.editing.proofs.deletion.steady.Statement.{statement}
 use Rattle.editing.proofs.deletion.steady.Tie as tie
 
@@ -21,45 +24,48 @@ inside s = omega (arith, s .pre .1, layout-facts (s .args .session .now) (s .pre
 marks-of-requires : tie.Need-marks-of-requires
 marks-of-requires c κs = search needs
 
-links-of-requires : tie.Need-links-of-requires
-links-of-requires c κs = search needs
-
 edges-of-requires : tie.Need-edges-of-requires
 edges-of-requires c κs = search needs
 
-slice-aggregate-left-at : tie.Need-slice-aggregate-left-at
-slice-aggregate-left-at c = search needs
+edges-from-requires : tie.Need-edges-from-requires
+edges-from-requires c κs =
+    let s = c .before .before .before in
+    let sound = held-sound (s .args .session .now) (s .pre .0) (triggerOf (s .args .session .now) .links) _ refl (c .edges-of .ensures) in
+    (sound .ascend, omega (arith, sound .few-edges), inside s)
 
-left-at-requires : tie.Need-left-at-requires
-left-at-requires c κs =
-    let s = c .before .before .before .before .before in (
-      refl,
-      long (c .before .before .before),
-      inside s,
-      sound-wider _ _ _ (held-sound (s .args .session .now) (s .pre .0) _ _ (c .before .before .links-of .ensures) (c .before .edges-of .ensures)),
-    )
+mul-unmet : tie.Need-mul-unmet
+mul-unmet c = search needs
 
-mul-result : tie.Need-mul-result
-mul-result c = search needs
+shared-slice-read-unmet : tie.Need-shared-slice-read-unmet
+shared-slice-read-unmet c = omega (arith, inside (c .before .before .before .before .before), long (c .before .before .before))
 
-shared-slice-read-result : tie.Need-shared-slice-read-result
-shared-slice-read-result c = omega (arith, inside (c .before .before .before .before .before .before .before), long (c .before .before .before .before .before))
+links-of-requires : tie.Need-links-of-requires
+links-of-requires c κs = search needs
+
+unmet-requires : tie.Need-unmet-requires
+unmet-requires c κs =
+    let s = c .before .before .before .before .before .before in
+    let f = layout-facts (s .args .session .now) (s .pre .0) .trigger in
+    (rw (c .links-of .ensures) (omega (arith, f .links, f .few)), long (c .before .before .before .before), long (c .before .before .before .before))
 
 returns : tie.Need-returns
 returns c =
     let s = c .before .before .before .before .before .before .before in
-    steady-is (s .args .session .now) (s .pre .0) _ _ (c .before .before .before .before .links-of .ensures) (c .before .before .before .edges-of .ensures) (replicate 512 0) _ (zeros 512) (c .before .before .before .before .before .marks-of .ensures)
-    (s .args .node) (c .before .left-at .result) (c .before .left-at .ensures)
+    let xs = s .args .session .now in
+    let marks = c .before .before .before .before .before .marks-of in
+    let sought : List ℕ → Set = λ es. unmetOf (getD (marks .result .now) (s .args .node) 0) (c .before .links-of .result .now) es (marks .result .now) (marks .result .now) in
+    steady-is xs (s .pre .0) (marks .result .now) (marks .ensures) (s .args .node) _ _ (c .unmet .result) (c .before .links-of .ensures) (c .before .before .before .before .edges-of .ensures)
+    (c .unmet .ensures ∙ ap sought (c .before .before .before .edges-from .ensures))
 
 pub steady-spec : {M : Type 1} → statement M
 steady-spec =
     tie.close
     (tie.spec
     marks-of-requires
-    links-of-requires
     edges-of-requires
-    slice-aggregate-left-at
-    left-at-requires
-    mul-result
-    shared-slice-read-result
+    edges-from-requires
+    mul-unmet
+    shared-slice-read-unmet
+    links-of-requires
+    unmet-requires
     returns)

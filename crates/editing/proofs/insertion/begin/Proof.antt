@@ -1,16 +1,19 @@
 -- The trials are refined beside the marks, from every node that has one.
-use borrow.Author.Needs.{needs}
-use native.Mathlib.Omega.{arith}
-use mathlib.Core.Path.{_≡_, refl, sym, _∙_, ap}
-use mathlib.Core.Bool.{not}
-use lib.Dec.{eqb}
-use lib.ListN.{length, getD, replicate}
-use borrow.Author.Tests.{ne-eqb}
-use Rattle.session.proofs.Decoded.{Bounded, layout-limits, layout-facts}
-use Rattle.simulation.proofs.Sets.{or-r, not-make}
+use Rattle.editing.proofs.Refining.{trials-refined}
+use Rattle.refinement.proofs.Turns.{zeros, sound-below}
 use Rattle.refinement.specs.Tables.{waits}
 use Rattle.reports.proofs.Held.{held-sound, marks-long}
-use Rattle.editing.proofs.Refining.{trials-refined}
+use Rattle.session.proofs.Decoded.{Bounded, layout-limits, layout-facts}
+use Rattle.session.specs.Layout.{triggerOf}
+use Rattle.simulation.proofs.Sets.{or-r, not-make}
+use borrow.Author.Needs.{needs}
+use borrow.Author.Tests.{ne-eqb}
+use lib.Dec.{eqb}
+use lib.ListN.{length, getD, replicate}
+use lib.Seq.{length-take-le}
+use mathlib.Core.Bool.{not}
+use mathlib.Core.Path.{_≡_, refl, sym, _∙_, ap}
+use native.Mathlib.Omega.{arith}
 use Rattle.editing.proofs.insertion.begin.Statement.{statement}
 use Rattle.editing.proofs.insertion.begin.Tie as tie
 
@@ -32,11 +35,21 @@ slice-aggregate-call-all c = search needs
 call-all-requires : tie.Need-call-all-requires
 call-all-requires c κs = (start (c .before .before) .pre .0 .1, refl)
 
-links-of-requires : tie.Need-links-of-requires
-links-of-requires c κs = search needs
-
 edges-of-requires : tie.Need-edges-of-requires
 edges-of-requires c κs = search needs
+
+slice-aggregate-starts-for : tie.Need-slice-aggregate-starts-for
+slice-aggregate-starts-for c = search needs
+
+starts-for-requires : tie.Need-starts-for-requires
+starts-for-requires c κs =
+    let s = start (c .before .before .before .before .before .before) in
+    let xs = s .args .session .now in
+    let sound = held-sound xs (s .pre .0 .0) (triggerOf xs .links) _ refl (c .before .edges-of .ensures) in
+    ((omega (arith, sound .few-edges), sound .ascend, sound-below _ _ _ sound, refl), zeros 513)
+
+links-of-requires : tie.Need-links-of-requires
+links-of-requires c κs = search needs
 
 marks-of-requires : tie.Need-marks-of-requires
 marks-of-requires c κs = search needs
@@ -44,14 +57,22 @@ marks-of-requires c κs = search needs
 slice-aggregate-refine : tie.Need-slice-aggregate-refine
 slice-aggregate-refine c = search needs
 
+array-share-prefix-firsts : tie.Need-array-share-prefix-firsts
+array-share-prefix-firsts c = search needs
+
+slice-aggregate-refine-2 : tie.Need-slice-aggregate-refine-2
+slice-aggregate-refine-2 c = let f = c .before .before .before .before .before .before .starts-for in sym (length-take-le (f .result) (f .last .1 .1 .0) (omega (arith, f .ensures .0)))
+
 refine-requires : tie.Need-refine-requires
 refine-requires c κs =
-    let s = start (c .before .before .before .before .before .before .before .before .before) in
-    let xs = s .args .session .now in (
-      (ap length (c .before .before .marks-of .ensures) ∙ marks-long xs (s .pre .0 .0), s .pre .0 .1, c .before .before .before .before .before .before .call-all .ensures .0),
+    let s = start (c .before .before .before .before .before .before .before .before .before .before .before .before .before) in
+    let xs = s .args .session .now in
+    let f = c .before .before .before .before .before .before .starts-for in (
+      (ap length (c .before .before .before .marks-of .ensures) ∙ marks-long xs (s .pre .0 .0), s .pre .0 .1, c .before .before .before .before .before .before .before .before .before .before .call-all .ensures .0),
       (
-        held-sound xs (s .pre .0 .0) _ _ (c .before .before .before .before .links-of .ensures) (c .before .before .before .edges-of .ensures),
-        rw (c .before .before .before .edges-of .ensures) (s .pre .1),
+        held-sound xs (s .pre .0 .0) _ _ (c .before .before .before .before .links-of .ensures) (c .before .before .before .before .before .before .before .before .edges-of .ensures),
+        λ some. f .ensures .1 (λ none. some (length-take-le (f .result) (f .last .1 .1 .0) (omega (arith, f .ensures .0)) ∙ none)),
+        rw (c .before .before .before .before .before .before .before .before .edges-of .ensures) (s .pre .1),
         λ u v e. omega (arith, layout-facts xs (s .pre .0 .0) .counts .1, s .pre .0 .2 u v e .1),
       ),
     )
@@ -61,11 +82,11 @@ same-length c = search needs
 
 returns : tie.Need-returns
 returns c =
-    let s = start (c .before .before .before .before .before .before .before .before .before .before .before .before .before) in
+    let s = start (c .before .before .before .before .before .before .before .before .before .before .before .before .before .before .before .before .before) in
     let xs = s .args .session .now in
-    trials-refined xs (s .pre .0 .0) _ _ (c .before .before .before .before .before .before .before .before .links-of .ensures) (c .before .before .before .before .before .before .before .edges-of .ensures) _ _ _ _ (c .before .before .before .refine .ensures)
-    (c .before .before .before .before .before .before .marks-of .ensures) (s .pre .0 .1) (s .pre .0 .2)
-    (λ v some. c .before .before .before .before .before .before .before .before .before .before .call-all .ensures .1 v ∙ or-r (waits (replicate 16 0) v) (not-make (ne-eqb (getD (s .args .table .now) v 0) 0 some)))
+    trials-refined xs (s .pre .0 .0) _ _ (c .before .before .before .before .before .before .before .before .links-of .ensures) (c .before .before .before .before .before .before .before .before .before .before .before .before .edges-of .ensures) _ _ _ _ (c .before .before .before .refine .ensures)
+    (c .before .before .before .before .before .before .before .marks-of .ensures) (s .pre .0 .1) (s .pre .0 .2)
+    (λ v some. c .before .before .before .before .before .before .before .before .before .before .before .before .before .before .call-all .ensures .1 v ∙ or-r (waits (replicate 16 0) v) (not-make (ne-eqb (getD (s .args .table .now) v 0) 0 some)))
 
 pub begin-spec : {M : Type 1} → statement M
 begin-spec =
@@ -75,10 +96,14 @@ begin-spec =
     cast-nodes
     slice-aggregate-call-all
     call-all-requires
-    links-of-requires
     edges-of-requires
+    slice-aggregate-starts-for
+    starts-for-requires
+    links-of-requires
     marks-of-requires
     slice-aggregate-refine
+    array-share-prefix-firsts
+    slice-aggregate-refine-2
     refine-requires
     same-length
     returns)

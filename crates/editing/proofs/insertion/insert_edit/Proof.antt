@@ -179,11 +179,11 @@ abbrev begun : tie.After-put-together → tie.After-begin
 begun p = p .before .before .before .before .before
 
 both : (p : tie.After-put-together) (u v : ℕ)
-    → let g = begun p in marked (p .put-together .last .0) u v ≡ (marked (g .begin .last .1 .1 .1 .0) u v || marksOf (xs₁ (edge-in (seeded (index-of (trials-of g))))) u v)
+    → let g = begun p in marked (p .put-together .last .0) u v ≡ (marked (g .begin .last .1 .1 .1 .1 .0) u v || marksOf (xs₁ (edge-in (seeded (index-of (trials-of g))))) u v)
 both p u v =
     let i = edge-in (seeded (index-of (trials-of (begun p)))) in
     p .put-together .ensures .1 u v
-    ∙ ap (λ (m : Marks). marked (begun p .begin .last .1 .1 .1 .0) u v || m u v) (ap marked (p .before .marks-of .ensures) ∙ held-marks (xs₁ i) (layout i))
+    ∙ ap (λ (m : Marks). marked (begun p .begin .last .1 .1 .1 .1 .0) u v || m u v) (ap marked (p .before .marks-of .ensures) ∙ held-marks (xs₁ i) (layout i))
 
 store-marks-requires : tie.Need-store-marks-requires
 store-marks-requires c κs =
@@ -195,7 +195,7 @@ store-marks-requires c κs =
       layout i,
       p .put-together .ensures .0 ∙ g .begin .ensures .long,
       stored-inside (s .args .session .now) (s .args .start) (s .args .end) (s .pre .0) (s .pre .1) (xs₁ i) (i .insert-edge .ensures)
-          (t .try-pairs .last .1 .1 .1 .1 .1 .0) (g .begin .last .1 .1 .1 .0) (p .put-together .last .0) (tried t) (g .begin .ensures) (both p),
+          (t .try-pairs .last .1 .1 .1 .1 .1 .0) (g .begin .last .1 .1 .1 .1 .0) (p .put-together .last .0) (tried t) (g .begin .ensures) (both p),
     )
 
 same-length-2 : tie.Need-same-length-2
@@ -215,7 +215,7 @@ returns-2 c =
     let i = edge-in (seeded (index-of t)) in
     let s = entry i in
     inserted-stored (s .args .session .now) (s .args .start) (s .args .end) (s .pre .0) (s .pre .1) (xs₁ i) (i .insert-edge .ensures)
-    (t .try-pairs .last .1 .1 .1 .1 .1 .0) (g .begin .last .1 .1 .1 .0) (p .put-together .last .0) (tried t) (g .begin .ensures) (both p) (g .before .before .before .before .before .pairs-in .result) (g .before .before .before .before .before .pairs-in .ensures) _ (m .store-marks .ensures)
+    (t .try-pairs .last .1 .1 .1 .1 .1 .0) (g .begin .last .1 .1 .1 .1 .0) (p .put-together .last .0) (tried t) (g .begin .ensures) (both p) (g .before .before .before .before .before .pairs-in .result) (g .before .before .before .before .before .pairs-in .ensures) _ (m .store-marks .ensures)
 
 pub insert-edit-spec : {M : Type 1} → statement M
 insert-edit-spec =

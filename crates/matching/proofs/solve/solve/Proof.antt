@@ -1,11 +1,11 @@
 -- The admitted pairs of what the session holds, refined from all nodes, are the greatest simulation.
-use borrow.Author.Needs.{needs}
-use native.Mathlib.Omega.{arith}
-use mathlib.Core.Path.{refl}
-use Rattle.session.proofs.Decoded.{Bounded, layout-limits, layout-facts}
+use Rattle.matching.proofs.Solving.{all-wait, held-inside, held-solved}
 use Rattle.refinement.proofs.Turns.{zeros}
 use Rattle.reports.proofs.Held.{held-sound}
-use Rattle.matching.proofs.Solving.{all-wait, held-inside, held-solved}
+use Rattle.session.proofs.Decoded.{Bounded, layout-limits, layout-facts}
+use borrow.Author.Needs.{needs}
+use mathlib.Core.Path.{refl}
+use native.Mathlib.Omega.{arith}
 use Rattle.matching.proofs.solve.solve.Statement.{statement}
 use Rattle.matching.proofs.solve.solve.Tie as tie
 
@@ -38,45 +38,24 @@ admitted-requires c κs =
     rw (c .before .before .before .masks-of .ensures, c .before .before .values-of .ensures, c .before .samples-of .ensures)
     ((f .trigger .values, f .trigger .few, f .graph .few, s .pre .1), (f .trigger .masks-fit, s .pre .2))
 
-edges-of-requires : tie.Need-edges-of-requires
-edges-of-requires c κs = search needs
-
-slice-aggregate-index : tie.Need-slice-aggregate-index
-slice-aggregate-index c = search needs
-
-slice-aggregate-index-2 : tie.Need-slice-aggregate-index-2
-slice-aggregate-index-2 c = search needs
-
-index-requires : tie.Need-index-requires
-index-requires c κs =
-    let s = start (c .before .before .before .before .before .before .before .before .before .before) in
-    rw (c .before .before .edges-of .ensures) ((layout-facts (s .args .session .now) (s .pre .0) .graph .few-edges, refl, refl), zeros 512)
-
 links-of-requires : tie.Need-links-of-requires
 links-of-requires c κs = search needs
 
-slice-aggregate-refine : tie.Need-slice-aggregate-refine
-slice-aggregate-refine c = search needs
+edges-of-requires : tie.Need-edges-of-requires
+edges-of-requires c κs = search needs
 
-slice-aggregate-refine-2 : tie.Need-slice-aggregate-refine-2
-slice-aggregate-refine-2 c = search needs
+slice-aggregate-refine-alone : tie.Need-slice-aggregate-refine-alone
+slice-aggregate-refine-alone c = search needs
 
-slice-aggregate-refine-3 : tie.Need-slice-aggregate-refine-3
-slice-aggregate-refine-3 c = search needs
-
-slice-aggregate-refine-4 : tie.Need-slice-aggregate-refine-4
-slice-aggregate-refine-4 c = search needs
-
-refine-requires : tie.Need-refine-requires
-refine-requires c κs =
-    let s = start (c .before .before .before .before .before .before .before .before .before .before .before .before .before .before .before .before .before .before .before) in
+refine-alone-requires : tie.Need-refine-alone-requires
+refine-alone-requires c κs =
+    let s = start (c .before .before .before .before .before .before .before .before .before .before .before) in
     let xs = s .args .session .now in
-    let a = c .before .before .before .before .before .before .before .before .before .before .before .before .before .before .admitted .ensures in (
-      (refl, a .long, refl),
+    let a = c .before .before .before .before .before .before .admitted .ensures in (
+      (a .long, refl),
       (
-        held-sound xs (s .pre .0) _ _ (c .before .before .before .before .before .links-of .ensures) (c .before .before .before .before .before .before .before .before .before .before .before .edges-of .ensures),
-        c .before .before .before .before .before .before .before .before .index .ensures,
-        held-inside xs (s .pre .0) _ _ _ (c .before .before .before .before .before .before .before .before .before .before .before .before .before .before .before .before .before .before .masks-of .ensures) (c .before .before .before .before .before .before .before .before .before .before .before .before .before .before .before .before .before .values-of .ensures) (c .before .before .before .before .before .before .before .before .before .before .before .before .before .before .before .before .samples-of .ensures) _ _ a,
+        held-sound xs (s .pre .0) _ _ (c .before .before .before .links-of .ensures) (c .before .before .edges-of .ensures),
+        held-inside xs (s .pre .0) _ _ _ (c .before .before .before .before .before .before .before .before .before .before .masks-of .ensures) (c .before .before .before .before .before .before .before .before .before .values-of .ensures) (c .before .before .before .before .before .before .before .before .samples-of .ensures) _ _ a,
       ),
     )
 
@@ -85,9 +64,9 @@ same-length c = search needs
 
 returns : tie.Need-returns
 returns c =
-    let s = start (c .before .before .before .before .before .before .before .before .before .before .before .before .before .before .before .before .before .before .before .before .before .before .before) in
-    held-solved (s .args .session .now) (s .pre .0) _ _ _ (c .before .before .before .before .before .before .before .before .before .before .before .before .before .before .before .before .before .before .before .before .before .before .masks-of .ensures) (c .before .before .before .before .before .before .before .before .before .before .before .before .before .before .before .before .before .before .before .before .before .values-of .ensures) (c .before .before .before .before .before .before .before .before .before .before .before .before .before .before .before .before .before .before .before .before .samples-of .ensures) _ _
-    (c .before .before .before .before .before .before .before .before .before .before .before .before .before .before .before .before .before .before .admitted .ensures) _ _ _ _ _ (c .before .before .before .before .before .before .before .before .before .links-of .ensures) (c .before .before .before .before .before .before .before .before .before .before .before .before .before .before .before .edges-of .ensures) (zeros 512) all-wait (c .before .before .before .refine .ensures)
+    let s = start (c .before .before .before .before .before .before .before .before .before .before .before .before .before .before .before) in
+    held-solved (s .args .session .now) (s .pre .0) _ _ _ (c .before .before .before .before .before .before .before .before .before .before .before .before .before .before .masks-of .ensures) (c .before .before .before .before .before .before .before .before .before .before .before .before .before .values-of .ensures) (c .before .before .before .before .before .before .before .before .before .before .before .before .samples-of .ensures) _ _
+    (c .before .before .before .before .before .before .before .before .before .before .admitted .ensures) _ _ _ _ _ (c .before .before .before .before .before .before .before .links-of .ensures) (c .before .before .before .before .before .before .edges-of .ensures) (zeros 512) all-wait (c .before .before .before .refine-alone .ensures)
 
 pub solve-spec : {M : Type 1} → statement M
 solve-spec =
@@ -99,15 +78,9 @@ solve-spec =
     values-of-requires
     samples-of-requires
     admitted-requires
-    edges-of-requires
-    slice-aggregate-index
-    slice-aggregate-index-2
-    index-requires
     links-of-requires
-    slice-aggregate-refine
-    slice-aggregate-refine-2
-    slice-aggregate-refine-3
-    slice-aggregate-refine-4
-    refine-requires
+    edges-of-requires
+    slice-aggregate-refine-alone
+    refine-alone-requires
     same-length
     returns)

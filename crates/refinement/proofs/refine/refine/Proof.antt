@@ -11,17 +11,17 @@ use Rattle.refinement.proofs.refine.refine.Statement.{statement}
 use Rattle.refinement.proofs.refine.refine.Tie as tie
 
 abbrev Inv-loop : tie.InvT-loop
-Inv-loop links edges nodes settled tentative₀ waiting₀ heads nexts v₀ tentative waiting v = (s : Sound nodes links edges) → Refining nodes links edges s settled tentative₀ waiting₀ tentative waiting v
+Inv-loop links edges nodes settled tentative₀ waiting₀ firsts heads nexts v₀ tentative waiting v = (s : Sound nodes links edges) → Refining nodes links edges s settled tentative₀ waiting₀ tentative waiting v
 
 abbrev μ-loop : tie.MeasureT-loop
-μ-loop links edges nodes settled tentative₀ waiting₀ heads nexts v₀ tentative waiting v = 513 * count (nodes * length links) (tabled nodes links edges tentative) + count 512 (waits waiting)
+μ-loop links edges nodes settled tentative₀ waiting₀ firsts heads nexts v₀ tentative waiting v = 513 * count (nodes * length links) (tabled nodes links edges tentative) + count 512 (waits waiting)
 
 -- the function's entry, from the loop's head
 abbrev Head : Type 0
 Head = tie.At-loop Inv-loop μ-loop
 
 abbrev start : Head → tie.Start Inv-loop μ-loop
-start h = h .before .before .before .before .before .before .before .before .before .before
+start h = h .before .before .before .before .before .before .before .before .before .before .before
 
 sound : (h : Head) → Sound (start h .args .nodes) (start h .args .links .now) (start h .args .edges .now)
 sound h = start h .pre .1 .0
@@ -38,7 +38,7 @@ turn-requires c κs =
     let h = l .before in
     let i = h .loop .inv (sound h) in (
       (start h .pre .0 .0, i .long, i .waits-long, omega (arith, l .loop-test .taken, sound h .few-nodes)),
-      (sound-wider _ _ _ (sound h), start h .pre .1 .1),
+      (sound-wider _ _ _ (sound h), start h .pre .1 .1, start h .pre .1 .2),
     )
 
 lowest-in-requires-2 : tie.Need-lowest-in-requires-2 Inv-loop μ-loop
@@ -69,7 +69,7 @@ same-length-2 c = let h = c .before in omega (arith, h .loop .inv (sound h) .wai
 returns : tie.Need-returns Inv-loop μ-loop
 returns c =
     let h = c .before in
-    refining-end _ _ _ (sound h) _ _ _ _ _ _ (h .loop .inv (sound h)) (c .loop-test .left) (start h .pre .1 .2) (start h .pre .0 .1)
+    refining-end _ _ _ (sound h) _ _ _ _ _ _ (h .loop .inv (sound h)) (c .loop-test .left) (start h .pre .1 .3) (start h .pre .0 .1)
 
 pub refine-spec : {M : Type 1} → statement M
 refine-spec =

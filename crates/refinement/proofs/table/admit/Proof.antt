@@ -2,47 +2,61 @@
 use Prim.Native.Nat.{_-_, _≤_}
 use native.Mathlib.Omega.{arith}
 use borrow.Author.Needs.{needs}
-use mathlib.Core.Path.{_≡_}
-use mathlib.Core.Logic.{⊎-elim}
-use lib.ListN.{length}
-use Rattle.refinement.proofs.Admitting.{Seen, seen-start, seen-take, seen-pass, seen-end}
+use mathlib.Core.Path.{_≡_, refl}
+use mathlib.Core.Bool.{Bool}
+use lib.Bits.{bitAnd, bitXor}
+use lib.Dec.{eqb}
+use lib.ListN.{length, getD}
+use Rattle.refinement.proofs.Admitting.{Seen, seen-start, seen-step, seen-end, picked-le}
 use Rattle.refinement.proofs.table.admit.Statement.{statement}
 use Rattle.refinement.proofs.table.admit.Tie as tie
 
 abbrev Inv-loop : tie.InvT-loop
-Inv-loop samples mask value u table₀ count₀ v₀ table count v = (v ≤ length samples) × (count ≤ v) × Seen samples mask value u table₀ v count table
+Inv-loop samples mask value u table₀ bit count₀ v₀ table count v = (v ≤ length samples) × (count ≤ v) × Seen samples mask value u table₀ v count table
 
 abbrev μ-loop : tie.MeasureT-loop
-μ-loop samples mask value u table₀ count₀ v₀ table count v = length samples - v
+μ-loop samples mask value u table₀ bit count₀ v₀ table count v = length samples - v
+
+-- the test of the node v
+abbrev hit : tie.At-loop Inv-loop μ-loop → Bool
+hit l =
+    let a = l .before .before .before .before .args in
+    eqb (bitAnd (bitXor (a .value) (getD (a .samples .now) (l .loop .v) 0)) (a .mask)) 0
+
+only-requires : tie.Need-only-requires Inv-loop μ-loop
+only-requires c κs = search needs
 
 loop-holds : tie.Need-loop-holds Inv-loop μ-loop
 loop-holds c =
-    let a = c .before .before .args in
+    let a = c .before .before .before .args in
     (search needs, search needs, seen-start (a .samples .now) (a .mask) (a .value) (a .u) (a .table .now))
 
-mul-if1 : tie.Need-mul-if1 Inv-loop μ-loop
-mul-if1 c = search needs
+mul-hit : tie.Need-mul-hit Inv-loop μ-loop
+mul-hit c = search needs
 
-shared-slice-read-if1 : tie.Need-shared-slice-read-if1 Inv-loop μ-loop
-shared-slice-read-if1 c = search needs
-
-mul-added : tie.Need-mul-added Inv-loop μ-loop
-mul-added c = search needs
-
-slice-read-added : tie.Need-slice-read-added Inv-loop μ-loop
-slice-read-added c = search needs
-
-added-requires : tie.Need-added-requires Inv-loop μ-loop
-added-requires c κs = search needs
+shared-slice-read-hit : tie.Need-shared-slice-read-hit Inv-loop μ-loop
+shared-slice-read-hit c = search needs
 
 mul-table : tie.Need-mul-table Inv-loop μ-loop
 mul-table c = search needs
 
+slice-read-table : tie.Need-slice-read-table Inv-loop μ-loop
+slice-read-table c = search needs
+
+picked-requires : tie.Need-picked-requires Inv-loop μ-loop
+picked-requires c κs = search needs
+
+mul-table-2 : tie.Need-mul-table-2 Inv-loop μ-loop
+mul-table-2 c = search needs
+
 slice-write-table : tie.Need-slice-write-table Inv-loop μ-loop
 slice-write-table c = search needs
 
+picked-requires-2 : tie.Need-picked-requires-2 Inv-loop μ-loop
+picked-requires-2 c κs = search needs
+
 add-count : tie.Need-add-count Inv-loop μ-loop
-add-count c = search needs
+add-count c = omega (arith, picked-le (hit (c .before .before .before .before .before)) (c .picked2 .result) 1 (c .picked2 .ensures))
 
 add-v : tie.Need-add-v Inv-loop μ-loop
 add-v c = search needs
@@ -52,30 +66,24 @@ loop-less c = search needs
 
 loop-again : tie.Need-loop-again Inv-loop μ-loop
 loop-again c =
-    let s = c .before .before .before .before .before .before in
+    let l = c .before .before .before .before .before in
+    let s = l .before .before .before .before in
     let a = s .args in
-    let l = c .before .before .before .loop in
-    ⊎-elim
-    (λ w.
-    rw (w .3, w .4) (
+    let p = c .before .picked in
+    let q = c .picked2 in
+    let few = picked-le (hit l) (q .result) 1 (q .ensures) in (
       search needs,
-      search needs,
-      seen-take (a .samples .now) (a .mask) (a .value) (a .u) (a .table .now) (s .pre .0) (l .inv .2) (w .2 .result) (search needs) (w .0 .taken) (w .2 .ensures),
-    ))
-    (λ w.
-    rw (w .1, w .2) (
-      search needs,
-      search needs,
-      seen-pass (a .samples .now) (a .mask) (a .value) (a .u) (a .table .now) (s .pre .0) (l .inv .2) (w .0 .left),
-    ))
-    (c .if1 .came)
+      omega arith,
+      seen-step (a .samples .now) (a .mask) (a .value) (a .u) (a .table .now) (s .pre .0) (l .loop .inv .2) (l .before .only .result) (p .result)
+          (q .result) (hit l) (search needs) refl (l .before .only .ensures) (p .ensures) (q .ensures),
+    )
 
 same-length : tie.Need-same-length Inv-loop μ-loop
 same-length c = c .before .loop .inv .2 .long
 
 returns : tie.Need-returns Inv-loop μ-loop
 returns c =
-    let a = c .before .before .before .before .args in
+    let a = c .before .before .before .before .before .args in
     let end : c .before .loop .v ≡ length (a .samples .now) = omega arith in
     seen-end (a .samples .now) (a .mask) (a .value) (a .u) (a .table .now) (rw end at (c .before .loop .inv .2))
 
@@ -85,14 +93,16 @@ admit-spec =
     (tie.spec
     Inv-loop
     μ-loop
+    only-requires
     loop-holds
-    mul-if1
-    shared-slice-read-if1
-    mul-added
-    slice-read-added
-    added-requires
+    mul-hit
+    shared-slice-read-hit
     mul-table
+    slice-read-table
+    picked-requires
+    mul-table-2
     slice-write-table
+    picked-requires-2
     add-count
     add-v
     loop-less

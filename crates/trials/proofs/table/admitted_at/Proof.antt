@@ -9,7 +9,8 @@ use Rattle.simulation.specs.Sets.{none, Set}
 use Rattle.bits.specs.Word.{members}
 use Rattle.bits.proofs.Words.{zero-members}
 use Rattle.session.proofs.Tables.{below-take}
-use Rattle.trials.proofs.Tabling.{admitting, admitting-yes, admitting-no, gained, gained-none, gained-more, gained-pass}
+use Rattle.refinement.proofs.Linked.{gained, gained-none, gained-more, gained-pass}
+use Rattle.trials.proofs.Tabling.{admitting, admitting-yes, admitting-no}
 use Rattle.trials.proofs.table.admitted_at.Statement.{statement}
 use Rattle.trials.proofs.table.admitted_at.Tie as tie
 

@@ -9,7 +9,8 @@ use lib.ListN.{length, getD}
 use borrow.Author.Tests.{eq-eqb, ne-eqb}
 use Rattle.simulation.specs.Sets.{Set}
 use Rattle.refinement.specs.Tables.{waits}
-use Rattle.trials.proofs.Tabling.{occupied, gained, gained-none, gained-more, gained-pass, gained-all, none-past}
+use Rattle.refinement.proofs.Linked.{gained, gained-none, gained-more, gained-pass, gained-all}
+use Rattle.trials.proofs.Tabling.{occupied, none-past}
 use Rattle.trials.proofs.table.call_all.Statement.{statement}
 use Rattle.trials.proofs.table.call_all.Tie as tie
 

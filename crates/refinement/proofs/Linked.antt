@@ -1,0 +1,166 @@
+-- Sets of states that a loop builds: those that pass a test, those with a link to a set, those to which a set has links.
+use Prim.Native.Nat.{ℕ, _+_, _^_, _<_, _≤_, zero-le}
+use native.Mathlib.Omega.{arith}
+use mathlib.Core.Path.{_≡_, refl, sym, ap, subst, fun-ext, _∙_}
+use mathlib.Core.Logic.{⊎-elim}
+use mathlib.Core.Bool.{Bool, true, false, not, _&&_, _||_, and-true, and-false, or-assoc, or-false, or-true}
+use mathlib.Core.List.{List}
+use lib.Dec.{ltb, eqb}
+use lib.ListN.{length, getD}
+use borrow.Author.Tests.{ltb-true, ltb-false, lt-ltb, le-ltb, eqb-true, eqb-false}
+use lib.Bits.{bitOr}
+use Rattle.simulation.specs.Sets.{Set, none, also, without}
+use Rattle.simulation.proofs.Sets.{clash, split, same, refuted, and-make, and-l, and-r, or-l, or-r, or-take, not-make, any-make, any-take}
+use Rattle.simulation.proofs.Edges.{any-same}
+use Rattle.bits.specs.Word.{members, meets}
+use Rattle.bits.proofs.Words.{zero-members, or-members}
+use Rattle.refinement.specs.Tables.{linkedFrom}
+use Rattle.refinement.proofs.Admitting.{more-here, more-other}
+
+-- ---- the set B, with the numbers below u that pass the test P
+
+module _ (B P : Set) where
+  abbrev pub gained : ℕ → Set
+  gained u x = B x || (ltb x u && P x)
+
+  pub gained-none : B ≡ gained 0
+  gained-none = fun-ext (λ x. sym (ap (λ (b : Bool). B x || (b && P x)) (le-ltb x 0 zero-le) ∙ or-false (B x)))
+
+  module _ (u : ℕ) {Y : Set} (e : Y ≡ gained u) where
+    away : (x : ℕ) → eqb x u ≡ false → Y x ≡ gained (u + 1) x
+    away x t = ap (λ (X : Set). X x) e ∙ ap (λ (b : Bool). B x || (b && P x)) (sym (more-other x u (eqb-false x u t)))
+
+    -- u passes, and is put in
+    pub gained-more : {Y' : Set} → P u ≡ true → Y' ≡ also Y u → Y' ≡ gained (u + 1)
+    gained-more h m =
+        m
+        ∙ fun-ext
+        (λ x.
+        ⊎-elim
+        (λ (t : eqb x u ≡ true). rw t (rw (eqb-true x u t, more-here u, h) (or-true (Y u) ∙ sym (or-true (B u)))))
+        (λ (t : eqb x u ≡ false). rw (t, or-false) (away x t))
+        (split (eqb x u)))
+
+    -- u fails
+    pub gained-pass : P u ≡ false → Y ≡ gained (u + 1)
+    gained-pass h =
+        fun-ext
+        (λ x. ⊎-elim (λ (t : eqb x u ≡ true). rw (eqb-true x u t) here) (λ (t : eqb x u ≡ false). away x t) (split (eqb x u)))
+      where
+        here : Y u ≡ gained (u + 1) u
+        here = ap (λ (X : Set). X u) e ∙ rw (h, and-false (ltb u u), and-false (ltb u (u + 1))) refl
+
+-- every number that passes is below n
+pub gained-all : (B P : Set) (n : ℕ) → ((x : ℕ) → n ≤ x → P x ≡ false) → (x : ℕ) → gained B P n x ≡ (B x || P x)
+gained-all B P n h x =
+    ap (λ (b : Bool). B x || b)
+    (⊎-elim (λ (t : ltb x n ≡ true). rw t refl) (λ (t : ltb x n ≡ false). rw (t, h x (ltb-false x n t)) refl) (split (ltb x n)))
+
+-- ---- the states with a link to a state of a word, those below u tested
+
+module _ (links : List ℕ) (word : ℕ) where
+  abbrev touches : Set
+  touches u = meets (getD links u 0) word
+
+  abbrev pub linkedTo : ℕ → Set
+  linkedTo u x = ltb x u && touches x
+
+  pub linked-none : members 0 ≡ linkedTo 0
+  linked-none = fun-ext zero-members ∙ gained-none none touches
+
+  module _ (u all : ℕ) (e : members all ≡ linkedTo u) where
+    pub linked-more : (all' : ℕ) → meets (getD links u 0) word ≡ true → members all' ≡ also (members all) u → members all' ≡ linkedTo (u + 1)
+    linked-more all' some m = gained-more none touches u e some m
+
+    pub linked-pass : meets (getD links u 0) word ≡ false → members all ≡ linkedTo (u + 1)
+    linked-pass fails = gained-pass none touches u e fails
+
+pub links-none : (links : List ℕ) (u : ℕ) → (ltb u (length links) && meets (getD links u 0) 0) ≡ false
+links-none links u =
+    refuted (ltb u (length links) && meets (getD links u 0) 0)
+    (λ h.
+    let r = any-take 32 (λ o. members (getD links u 0) o && members 0 o) (and-r (ltb u (length links)) (meets (getD links u 0) 0) h) in
+    clash (and-r (members (getD links u 0) (r .0)) (members 0 (r .0)) (r .2)) (zero-members (r .0)))
+
+-- ---- the states to which a state of a word has a link: `rest` is what is left of the word, and `all` has the links of the others
+
+module _ (links : List ℕ) (word : ℕ) where
+  pub record Linking (all rest : ℕ) : Type 0 where
+    pub small : (u : ℕ) → members rest u ≡ true → u < length links
+    pub both : (o : ℕ) → (members all o || linkedFrom links rest o) ≡ linkedFrom links word o
+
+  pub linking-start : (rest : ℕ) → ((u : ℕ) → members rest u ≡ (members word u && ltb u (length links))) → Linking 0 rest
+  linking-start rest e = record {
+    small = λ u m. ltb-true u (length links) (and-r (members word u) (ltb u (length links)) (sym (e u) ∙ m));
+    both = λ o.
+        ap (λ (b : Bool). b || linkedFrom links rest o) (zero-members o)
+        ∙ any-same (length links) (λ u. members rest u && members (getD links u 0) o) (λ u. members word u && members (getD links u 0) o)
+        (λ u l. ap (λ (b : Bool). b && members (getD links u 0) o) (e u ∙ ap (λ (b : Bool). members word u && b) (lt-ltb u (length links) l) ∙ and-true (members word u)));
+  }
+
+  module _ (all rest : ℕ) (r : Linking all rest) where
+    pub linking-next : (u rest' : ℕ) → members rest u ≡ true → members rest' ≡ without (members rest) u → Linking (bitOr all (getD links u 0)) rest'
+    linking-next u rest' m e =
+        record {
+          small = λ x h. r .small x (and-l (members rest x) (not (eqb x u)) (sym (at x) ∙ h));
+          both = λ o.
+              ap (λ (X : Set). X o || linkedFrom links rest' o) (or-members all (getD links u 0))
+              ∙ or-assoc (members all o) (members (getD links u 0) o) (linkedFrom links rest' o)
+              ∙ ap (λ (b : Bool). members all o || b) (step o)
+              ∙ r .both o;
+        }
+      where
+        n : ℕ
+        n = length links
+
+        at : (x : ℕ) → members rest' x ≡ (members rest x && not (eqb x u))
+        at x = ap (λ (X : Set). X x) e
+
+        step : (o : ℕ) → (members (getD links u 0) o || linkedFrom links rest' o) ≡ linkedFrom links rest o
+        step o = same (members (getD links u 0) o || linkedFrom links rest' o) (linkedFrom links rest o) there back
+          where
+            old : Set
+            old x = members rest x && members (getD links x 0) o
+
+            new : Set
+            new x = members rest' x && members (getD links x 0) o
+
+            there : (members (getD links u 0) o || linkedFrom links rest' o) ≡ true → linkedFrom links rest o ≡ true
+            there h =
+                ⊎-elim
+                (λ link. any-make (length links) old u (r .small u m) (and-make m link))
+                (λ k.
+                let w = any-take (length links) new k in
+                let x = w .0 in
+                any-make (length links) old x (w .1)
+                (and-make
+                (and-l (members rest x) (not (eqb x u)) (sym (at x) ∙ and-l (members rest' x) (members (getD links x 0) o) (w .2)))
+                (and-r (members rest' x) (members (getD links x 0) o) (w .2))))
+                (or-take (members (getD links u 0) o) (linkedFrom links rest' o) h)
+
+            back : linkedFrom links rest o ≡ true → (members (getD links u 0) o || linkedFrom links rest' o) ≡ true
+            back h =
+                let w = any-take (length links) old h in
+                let x = w .0 in
+                let held = and-l (members rest x) (members (getD links x 0) o) (w .2) in
+                let link = and-r (members rest x) (members (getD links x 0) o) (w .2) in
+                ⊎-elim
+                (λ (t : eqb x u ≡ true). or-l (linkedFrom links rest' o) (subst (λ (y : ℕ). members (getD links y 0) o ≡ true) (eqb-true x u t) link))
+                (λ (t : eqb x u ≡ false).
+                or-r (members (getD links u 0) o) (any-make (length links) new x (w .1) (and-make (at x ∙ and-make held (not-make t)) link)))
+                (split (eqb x u))
+
+    pub linking-done : rest ≡ 0 → members all ≡ linkedFrom links word
+    linking-done e =
+        fun-ext
+        (λ o.
+        sym (or-false (members all o))
+        ∙ ap (λ (b : Bool). members all o || b) (sym (none o))
+        ∙ r .both o)
+      where
+        none : (o : ℕ) → linkedFrom links rest o ≡ false
+        none o =
+            refuted (linkedFrom links rest o)
+            (λ h.
+            let w = any-take (length links) (λ u. members rest u && members (getD links u 0) o) h in
+            clash (and-l (members rest (w .0)) (members (getD links (w .0) 0) o) (w .2)) (ap (λ (x : ℕ). members x (w .0)) e ∙ zero-members (w .0)))
