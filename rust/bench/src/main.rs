@@ -1,6 +1,8 @@
 //! Times the engine beside its twin in plain Rust and the plain fixed-point program, in one run and in turns.
 //!
-//!     bench [--rounds N] [--sizes N,N,..]
+//!     bench [--rounds N] [--sizes N,N,..] [--only TEXT]
+//!
+//! With `--only`, the workloads whose name has the text.
 //!
 //! Every call is made on all three before it is timed, and answers, memory and change lists are compared; while the
 //! engine and its twin are timed, their answers are compared again. The table has the time of one call by medians, and the
@@ -23,13 +25,14 @@ const BUDGET: Duration = Duration::from_millis(20);
 struct Options {
     rounds: usize,
     sizes: Vec<usize>,
+    only: String,
 }
 
 fn main() {
     let options = match options(std::env::args().skip(1)) {
         Ok(options) => options,
         Err(fault) => {
-            eprintln!("{fault}\nbench [--rounds N] [--sizes N,N,..]");
+            eprintln!("{fault}\nbench [--rounds N] [--sizes N,N,..] [--only TEXT]");
             std::process::exit(2);
         }
     };
@@ -38,18 +41,19 @@ fn main() {
         "workload", "nodes", "trials", "changes", "engine ns", "twin ns", "plain ns", "engine/twin", "plain/engine"
     );
     for nodes in options.sizes {
-        for workload in workloads(nodes) {
-            row(&workload, options.rounds);
+        for workload in workloads(nodes).iter().filter(|workload| workload.name.contains(&options.only)) {
+            row(workload, options.rounds);
         }
     }
 }
 
 fn options(mut words: impl Iterator<Item = String>) -> Result<Options, String> {
-    let mut options = Options { rounds: 51, sizes: vec![64, 128, 256, 512] };
+    let mut options = Options { rounds: 51, sizes: vec![64, 128, 256, 512], only: String::new() };
     while let Some(word) = words.next() {
         let value = words.next().ok_or(format!("{word} needs a value"))?;
         let number = |text: &str| text.parse::<usize>().map_err(|_| format!("{text} is no number"));
         match word.as_str() {
+            "--only" => options.only = value,
             "--rounds" => options.rounds = number(&value)?.max(1),
             "--sizes" => {
                 options.sizes = value.split(',').map(number).collect::<Result<_, _>>()?;
