@@ -3,14 +3,14 @@ use Prim.Native.Nat.{ℕ, zero, suc, _+_, _-_, _/_, _%_, _<_, _≤_, zero-le}
 use native.Mathlib.Nat.{not-suc-le-zero}
 use native.Mathlib.Numerals.{add-one}
 use native.Mathlib.Omega.{arith}
-use mathlib.Core.Path.{_≡_, refl, sym, ap, fun-ext, _∙_}
+use mathlib.Core.Path.{_≡_, refl, sym, ap, subst, fun-ext, _∙_}
 use mathlib.Core.Logic.{⊎-elim}
 use mathlib.Core.Bool.{Bool, true, false, _&&_, _||_, cond, or-false, or-assoc}
 use mathlib.Core.List.{List}
 use lib.Dec.{leb, eqb}
 use lib.ListN.{length, getD, set, length-set}
 use lib.Seq.{getD-set-same, getD-set-other}
-use borrow.Author.Tests.{eqb-true, eqb-false, eq-eqb, leb-true, le-leb}
+use borrow.Author.Tests.{eqb-true, eqb-false, eq-eqb, ne-eqb, leb-true, le-leb}
 use Rattle.simulation.specs.Sets.{Set, anyBelow, also}
 use Rattle.simulation.proofs.Sets.{clash, split, same, refuted, and-make, and-l, and-r, or-l, or-r, or-take, any-make, any-take}
 use Rattle.simulation.proofs.Search.{lt-or-le}
@@ -303,3 +303,77 @@ module _ {es heads nexts : List ℕ} (x : Indexed es heads nexts) (P : Set) wher
             (λ (t : eqb w start ≡ true). rw t (rw (eqb-true w start t) fails))
             (λ (t : eqb w start ≡ false). rw t refl)
             (split (eqb w start))
+
+-- ---- without an index: those by the first k edges, and that pass the test P, wait
+
+module _ (es : List ℕ) (P : Set) (v : ℕ) where
+  -- w has one of the first k edges, and it leads to v
+  abbrev pub leadsTo : ℕ → Set
+  leadsTo k w = anyBelow k (λ j. endsAt es v j && eqb (getD es j 0 / 512) w)
+
+  pub leads-none : (ws : List ℕ) → waits ws ≡ (λ w. waits ws w || (leadsTo 0 w && P w))
+  unfolding anyBelow
+  leads-none ws = fun-ext (λ w. sym (or-false (waits ws w)))
+
+  pub leads-more : (ws ws' ws'' : List ℕ) (k : ℕ) → waits ws' ≡ (λ w. waits ws w || (leadsTo k w && P w))
+      → waits ws'' ≡ (λ w. waits ws' w || ((endsAt es v k && eqb (getD es k 0 / 512) w) && P w))
+      → waits ws'' ≡ (λ w. waits ws w || (leadsTo (k + 1) w && P w))
+  unfolding anyBelow
+  leads-more ws ws' ws'' k e h =
+      h
+      ∙ fun-ext
+      (λ w.
+      ap (λ (X : Set). X w || ((endsAt es v k && eqb (getD es k 0 / 512) w) && P w)) e
+      ∙ join (waits ws w) (leadsTo k w) (endsAt es v k && eqb (getD es k 0 / 512) w) (P w)
+      ∙ ap (λ (n : ℕ). waits ws w || (leadsTo n w && P w)) (sym (add-one k)))
+    where
+      join : (a b c d : Bool) → ((a || (b && d)) || (c && d)) ≡ (a || ((c || b) && d))
+      join true b c d = refl
+      join false true true true = refl
+      join false true true false = refl
+      join false true false true = refl
+      join false true false false = refl
+      join false false true d = refl
+      join false false false d = refl
+
+  pub leads-all : (w : ℕ) → leadsTo (length es) w ≡ precedes es v w
+  unfolding precedes
+  leads-all w = refl
+
+-- one edge: its start is put in, or nothing is
+module _ (edge v : ℕ) (P : Set) (ws : List ℕ) where
+  abbrev startsHere : Set
+  startsHere w = (eqb (edge % 512) v && eqb (edge / 512) w) && P w
+
+  pub one-in : (ws' : List ℕ) → edge % 512 ≡ v → P (edge / 512) ≡ true → waits ws' ≡ also (waits ws) (edge / 512)
+      → waits ws' ≡ (λ w. waits ws w || startsHere w)
+  one-in ws' at pass e =
+      e
+      ∙ fun-ext
+      (λ w.
+      ap (λ (b : Bool). waits ws w || b)
+      (⊎-elim
+      (λ (t : eqb w (edge / 512) ≡ true).
+      t ∙ sym (rw (eqb-true w (edge / 512) t, eq-eqb (edge % 512) v at, eq-eqb (edge / 512) (edge / 512) refl) pass))
+      (λ (t : eqb w (edge / 512) ≡ false).
+      t
+      ∙ sym
+      (refuted (startsHere w)
+      (λ h.
+      eqb-false w (edge / 512) t
+      (sym (eqb-true (edge / 512) w (and-r (eqb (edge % 512) v) (eqb (edge / 512) w) (and-l (eqb (edge % 512) v && eqb (edge / 512) w) (P w) h)))))))
+      (split (eqb w (edge / 512)))))
+
+  -- it ends elsewhere, or its start fails
+  pub one-out : ((w : ℕ) → startsHere w ≡ false) → waits ws ≡ (λ w. waits ws w || startsHere w)
+  one-out none = fun-ext (λ w. sym (ap (λ (b : Bool). waits ws w || b) (none w) ∙ or-false (waits ws w)))
+
+  pub ends-elsewhere : (edge % 512 ≡ v → ⊥) → (w : ℕ) → startsHere w ≡ false
+  ends-elsewhere ne w = rw (ne-eqb (edge % 512) v ne) refl
+
+  pub start-fails : P (edge / 512) ≡ false → (w : ℕ) → startsHere w ≡ false
+  start-fails fails w =
+      refuted (startsHere w)
+      (λ h.
+      let here = eqb-true (edge / 512) w (and-r (eqb (edge % 512) v) (eqb (edge / 512) w) (and-l (eqb (edge % 512) v && eqb (edge / 512) w) (P w) h)) in
+      clash (and-r (eqb (edge % 512) v && eqb (edge / 512) w) (P w) h) (subst (λ (x : ℕ). P x ≡ false) here fails))

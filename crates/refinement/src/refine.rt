@@ -118,7 +118,7 @@ pub fn turn(
     v: usize,
 )
     requires { ⌜ (length (now settled) ≡ maxNodes) × (length (now tentative) ≡ maxNodes) × (length (now waiting) ≡ 16) × (v < maxNodes) ⌝ }
-    requires { ⌜ Sound maxNodes (now links) (now edges) × ((length (now firsts) ≡ 0 → ⊥) → Started (now edges) (now firsts)) × Indexed (now edges) (now heads) (now nexts) ⌝ }
+    requires { ⌜ Sound maxNodes (now links) (now edges) × ((length (now firsts) ≡ 0 → ⊥) → Started (now edges) (now firsts)) × ((length (now heads) ≡ 0 → ⊥) → Indexed (now edges) (now heads) (now nexts)) ⌝ }
     ensures { λ r. ⌜ Turned (now (links .entry)) (now (edges .entry)) (now (settled .entry)) (now (tentative .entry)) (now (waiting .entry)) v (now (tentative .exit)) (now (waiting .exit)) ⌝ }
 {
     take_out(waiting, v);
@@ -144,7 +144,7 @@ pub fn refine(
     nexts: &[u32],
 )
     requires { ⌜ (length (now settled) ≡ maxNodes) × (length (now tentative) ≡ maxNodes) × (length (now waiting) ≡ 16) ⌝ }
-    requires { ⌜ Sound nodes (now links) (now edges) × ((length (now firsts) ≡ 0 → ⊥) → Started (now edges) (now firsts)) × Indexed (now edges) (now heads) (now nexts) × ((u v : ℕ) → marked (now tentative) u v ≡ true → v < nodes) ⌝ }
+    requires { ⌜ Sound nodes (now links) (now edges) × ((length (now firsts) ≡ 0 → ⊥) → Started (now edges) (now firsts)) × ((length (now heads) ≡ 0 → ⊥) → Indexed (now edges) (now heads) (now nexts)) × ((u v : ℕ) → marked (now tentative) u v ≡ true → v < nodes) ⌝ }
     ensures { λ r. ⌜ Settled nodes (now (links .entry)) (now (edges .entry)) (now (settled .entry)) (now (tentative .entry)) (now (waiting .entry)) (now (tentative .exit)) ⌝ }
 {
     let mut v = lowest_in(waiting);

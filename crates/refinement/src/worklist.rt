@@ -1,7 +1,8 @@
 // The nodes that must be looked at again, as a set, and the index of incoming edges by which a node calls its predecessors in.
 ghost use mathlib.Core.Path.{_≡_};
 ghost use mathlib.Core.Bool.{true, _&&_, _||_};
-ghost use Prim.Native.Nat.{ℕ, _<_, _≤_};
+ghost use Prim.Native.Nat.{ℕ, _/_, _%_, _<_, _≤_};
+ghost use lib.Dec.{eqb};
 ghost use lib.ListN.{length, getD};
 ghost use Rattle.simulation.specs.Sets.{also, without};
 ghost use Rattle.simulation.specs.Search.{first};
@@ -60,8 +61,8 @@ pub fn index(edges: &[u32], heads: &mut [u32], nexts: &mut [u32])
     }
 }
 
-// Puts every node in that has an edge to this one, and in a table a state of the word.
-pub fn call_in(
+// Puts every node in that has an edge to this one, and in a table a state of the word: by the index.
+pub fn call_in_by_index(
     waiting: &mut [u32],
     edges: &[u32],
     heads: &[u32],
@@ -82,5 +83,58 @@ pub fn call_in(
             put_in(waiting, start);
         }
         next = nexts[k] as usize;
+    }
+}
+
+// Puts the start of an edge in, where the edge ends at the node and the table has a state of the word at its start.
+pub fn call_one(waiting: &mut [u32], edge: u32, node: usize, table: &[u32], word: u32)
+    requires { ⌜ (length (now waiting) ≡ 16) × (edge < 262144) × (length (now table) ≡ maxNodes) ⌝ }
+    ensures { λ r. ⌜ (length (now (waiting .exit)) ≡ 16) × (waits (now (waiting .exit)) ≡ (λ w. waits (now (waiting .entry)) w || ((eqb (edge % maxNodes) node && eqb (edge / maxNodes) w) && meets (getD (now (table .entry)) w 0) word))) ⌝ }
+{
+    if (edge % session::EDGE_BASE) as usize == node {
+        let start = (edge / session::EDGE_BASE) as usize;
+        if bits::meet(table[start], word) {
+            put_in(waiting, start);
+        }
+    }
+}
+
+// The same of all edges, without an index.
+pub fn call_in_by_edges(
+    waiting: &mut [u32],
+    edges: &[u32],
+    node: usize,
+    table: &[u32],
+    word: u32,
+)
+    requires { ⌜ (length (now waiting) ≡ 16) × (node < maxNodes) × (length (now edges) ≤ maxEdges) × (length (now table) ≡ maxNodes) ⌝ }
+    requires { ⌜ below 262144 (now edges) ≡ true ⌝ }
+    ensures { λ r. ⌜ (length (now (waiting .exit)) ≡ 16) × (waits (now (waiting .exit)) ≡ (λ w. waits (now (waiting .entry)) w || (precedes (now (edges .entry)) node w && meets (getD (now (table .entry)) w 0) word))) ⌝ }
+{
+    let mut k = 0;
+    while k < edges.len() {
+        call_one(waiting, edges[k], node, table, word);
+        k += 1;
+    }
+}
+
+// By the index, or by all edges where there is none.
+pub fn call_in(
+    waiting: &mut [u32],
+    edges: &[u32],
+    heads: &[u32],
+    nexts: &[u32],
+    node: usize,
+    table: &[u32],
+    word: u32,
+)
+    requires { ⌜ (length (now waiting) ≡ 16) × (node < maxNodes) × (length (now edges) ≤ maxEdges) × (length (now table) ≡ maxNodes) ⌝ }
+    requires { ⌜ (below 262144 (now edges) ≡ true) × ((length (now heads) ≡ 0 → ⊥) → Indexed (now edges) (now heads) (now nexts)) ⌝ }
+    ensures { λ r. ⌜ (length (now (waiting .exit)) ≡ 16) × (waits (now (waiting .exit)) ≡ (λ w. waits (now (waiting .entry)) w || (precedes (now (edges .entry)) node w && meets (getD (now (table .entry)) w 0) word))) ⌝ }
+{
+    if heads.len() == 0 {
+        call_in_by_edges(waiting, edges, node, table, word);
+    } else {
+        call_in_by_index(waiting, edges, heads, nexts, node, table, word);
     }
 }
