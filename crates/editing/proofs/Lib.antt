@@ -8,6 +8,7 @@ pub mod Steady
 pub mod Deleting
 pub mod Deleted
 pub mod Trying
+pub mod Lonely
 pub mod Inserting
 pub mod Inserted
 pub mod Called

@@ -4,14 +4,15 @@ use mathlib.Core.Path.{_≡_}
 use mathlib.Core.Bool.{Bool, true, false, not, _&&_, _||_}
 use mathlib.Core.List.{List, [], _∷_}
 use lib.Dec.{ltb}
-use lib.ListN.{length}
+use lib.ListN.{length, getD}
 use Rattle.simulation.specs.Sets.{Set, In, none, allBelow, anyBelow}
 use Rattle.simulation.specs.System.{supported, refined}
 use Rattle.simulation.specs.Pattern.{pair, system}
 use Rattle.session.specs.Limits.{maxNodes, maxChanges, fixedSize}
 use Rattle.session.specs.Trigger.{Trigger, Graph, Marks, states, nodes, linked, admits, pattern}
 use Rattle.session.specs.Layout.{triggerOf, graphOf, marksOf, inLayout}
-use Rattle.refinement.specs.Tables.{marked}
+use Rattle.bits.specs.Word.{members}
+use Rattle.refinement.specs.Tables.{marked, endsAt}
 use Rattle.promises.specs.Standing.{pairsOf, fresh}
 use Rattle.promises.specs.Rules.{Rule, rule, Kind, insertion, deletion}
 use Rattle.reports.specs.Marks.{Inside}
@@ -35,6 +36,16 @@ seedsOf xs a b u =
     let t = triggerOf xs in
     let g = graphOf xs in
     ltb u (states t) && (fresh t g (marksOf xs) u a && anyBelow (states t) (λ u'. linked t u u' && admits t g u' b))
+
+-- a state of the word w is fresh at the node v
+abbrev pub freshAmong : List ℕ → ℕ → ℕ → Bool
+freshAmong xs w v = anyBelow 32 (λ u. members w u && (ltb u (states (triggerOf xs)) && fresh (triggerOf xs) (graphOf xs) (marksOf xs) u v))
+
+-- none is at a node with an edge to a
+unfoldable pub aloneAt : List ℕ → ℕ → ℕ → Bool
+aloneAt xs a w =
+    let es = graphOf xs .edges in
+    allBelow (length es) (λ k. not (endsAt es a k) || not (freshAmong xs w (getD es k 0 / maxNodes)))
 
 -- the pairs that Y supports
 abbrev pub backed : List ℕ → Set → Set

@@ -1,4 +1,5 @@
 // The edits: one edge put in or taken out, and the marks corrected.
+pub mod alone;
 pub mod calls;
 pub mod deletion;
 pub mod insertion;

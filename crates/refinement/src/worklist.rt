@@ -100,13 +100,7 @@ pub fn call_one(waiting: &mut [u32], edge: u32, node: usize, table: &[u32], word
 }
 
 // The same of all edges, without an index.
-pub fn call_in_by_edges(
-    waiting: &mut [u32],
-    edges: &[u32],
-    node: usize,
-    table: &[u32],
-    word: u32,
-)
+pub fn call_in_by_edges(waiting: &mut [u32], edges: &[u32], node: usize, table: &[u32], word: u32)
     requires { ⌜ (length (now waiting) ≡ 16) × (node < maxNodes) × (length (now edges) ≤ maxEdges) × (length (now table) ≡ maxNodes) ⌝ }
     requires { ⌜ below 262144 (now edges) ≡ true ⌝ }
     ensures { λ r. ⌜ (length (now (waiting .exit)) ≡ 16) × (waits (now (waiting .exit)) ≡ (λ w. waits (now (waiting .entry)) w || (precedes (now (edges .entry)) node w && meets (getD (now (table .entry)) w 0) word))) ⌝ }

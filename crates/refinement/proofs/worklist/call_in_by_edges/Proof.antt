@@ -29,7 +29,7 @@ shared-slice-read-call-one : tie.Need-shared-slice-read-call-one Inv-loop μ-loo
 shared-slice-read-call-one c = search needs
 
 call-one-requires : tie.Need-call-one-requires Inv-loop μ-loop
-call-one-requires c κs = 
+call-one-requires c κs =
     let h = c .before .before .before in
     let s = h .before .before .before .before in
     (h .loop .inv .1, below-take 262144 (s .args .edges .now) (s .pre .1) (h .loop .k) (c .before .before .loop-test .taken), s .pre .0 .3)
@@ -41,7 +41,7 @@ loop-less : tie.Need-loop-less Inv-loop μ-loop
 loop-less c = search needs
 
 loop-again : tie.Need-loop-again Inv-loop μ-loop
-loop-again c = 
+loop-again c =
     let h = c .before .before .before .before .before .before in
     let a = h .before .before .before .before .args in
     let one = c .before .before .call-one in (
@@ -54,7 +54,7 @@ same-length : tie.Need-same-length Inv-loop μ-loop
 same-length c = omega (arith, c .before .loop .inv .1, c .before .before .before .before .before .pre .0)
 
 returns : tie.Need-returns Inv-loop μ-loop
-returns c = 
+returns c =
     let h = c .before in
     let s = h .before .before .before .before in
     let a = s .args in

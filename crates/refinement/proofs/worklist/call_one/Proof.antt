@@ -36,7 +36,7 @@ same-length : tie.Need-same-length
 same-length c = search needs
 
 returns : tie.Need-returns
-returns c = 
+returns c =
     let s = c .before .before .before .before .before .before .before .before .before .before in
     let a = s .args in
     let P = test s in
@@ -44,14 +44,14 @@ returns c =
     (put .ensures .0, one-in (a .edge) (a .node) P (a .waiting .now) (put .last .0) (c .before .before .before .before .before .before .before .if1 .taken) (sym (c .before .before .before .before .before .meet .ensures) ∙ c .before .before .before .before .if2 .taken) (put .ensures .1))
 
 returns-2 : tie.Need-returns-2
-returns-2 c = 
+returns-2 c =
     let s = c .before .before .before .before .before .before in
     let a = s .args in
     let P = test s in
     (s .pre .0, one-out (a .edge) (a .node) P (a .waiting .now) (start-fails (a .edge) (a .node) P (a .waiting .now) (sym (c .before .meet .ensures) ∙ c .if2 .left)))
 
 returns-3 : tie.Need-returns-3
-returns-3 c = 
+returns-3 c =
     let s = c .before .before .before in
     let a = s .args in
     let P = test s in
