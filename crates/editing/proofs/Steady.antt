@@ -2,19 +2,21 @@
 use Prim.Native.Nat.{ℕ, _<_, _≤_}
 use native.Mathlib.Omega.{arith}
 use mathlib.Core.Path.{_≡_, sym, _∙_, ap, ap₂, fun-ext, subst}
-use mathlib.Core.Bool.{Bool, true, not, _||_, or-self}
+use mathlib.Core.Bool.{Bool, true, not, _&&_, _||_, or-self}
 use mathlib.Core.List.{List}
-use lib.Dec.{eqb}
+use lib.Dec.{ltb, eqb}
 use lib.ListN.{length, getD, take, drop}
 use Rattle.simulation.specs.Sets.{Set, union, allBelow}
 use Rattle.simulation.specs.System.{supported}
 use Rattle.simulation.specs.Pattern.{Pattern, pair, paired, system}
+use Rattle.simulation.proofs.Sets.{clash, refuted, and-l, any-take}
 use Rattle.simulation.proofs.Edges.{all-same}
 use Rattle.bits.specs.Word.{members}
+use Rattle.bits.proofs.Words.{zero-members}
 use Rattle.session.specs.Trigger.{Trigger, Graph, Marks, states, nodes, pattern}
 use Rattle.session.specs.Layout.{triggerOf, graphOf, marksOf, inLayout}
 use Rattle.session.proofs.Decoded.{LayoutFacts, layout-facts}
-use Rattle.refinement.specs.Tables.{marked, whole, unmetOf, edgesFrom}
+use Rattle.refinement.specs.Tables.{marked, linkedFrom, carried, whole, unmetOf, edgesFrom}
 use Rattle.refinement.proofs.Kept.{whole-met}
 use Rattle.refinement.proofs.Settling.{whole-supported}
 use Rattle.reports.proofs.Systems.{sound, same-states, supported-pattern}
@@ -61,3 +63,17 @@ module _ (xs : List ℕ) (h : inLayout xs ≡ true) (ms : List ℕ) (full : ms �
       (λ u. not (marksOf xs u a) || backed xs (markedPairs xs) (pair (pattern t g) u a))
       (λ u l. ap₂ (λ (x y : Bool). not x || y) (ap (λ (m : Marks). m u a) all-marked) (stays u l))
       ∙ ap (λ (k : ℕ). allBelow k (λ u. not (marksOf xs u a) || backed xs (markedPairs xs) (pair (pattern t g) u a))) (facts .trigger .links)
+
+-- a word without a member has no link that is not met
+pub unmet-none : (links es ss ts : List ℕ) → members 0 ≡ unmetOf 0 links es ss ts
+unmet-none links es ss ts =
+    fun-ext
+    (λ o.
+    let links-to : Set = λ u. members 0 u && members (getD links u 0) o in
+    zero-members o
+    ∙ sym
+    (refuted (unmetOf 0 links es ss ts o)
+    (λ h.
+    let inside = and-l (linkedFrom links 0 o && ltb o (length links)) (not (carried es ss ts o)) h in
+    let w = any-take (length links) links-to (and-l (linkedFrom links 0 o) (ltb o (length links)) inside) in
+    clash (and-l (members 0 (w .0)) (members (getD links (w .0) 0) o) (w .2)) (zero-members (w .0)))))

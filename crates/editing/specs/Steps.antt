@@ -1,11 +1,11 @@
 -- What the steps of an edit leave, on a session that holds a trigger t, a graph g with the edge put in or taken out already, and marks m.
-use Prim.Native.Nat.{ℕ, _*_, _/_, _<_}
+use Prim.Native.Nat.{ℕ, _*_, _/_, _%_, _<_}
 use mathlib.Core.Path.{_≡_}
 use mathlib.Core.Bool.{Bool, true, false, not, _&&_, _||_}
 use mathlib.Core.List.{List, [], _∷_}
 use lib.Dec.{ltb}
 use lib.ListN.{length, getD}
-use Rattle.simulation.specs.Sets.{Set, In, none, allBelow, anyBelow}
+use Rattle.simulation.specs.Sets.{Set, In, none, allBelow, anyBelow, count}
 use Rattle.simulation.specs.System.{supported, refined}
 use Rattle.simulation.specs.Pattern.{pair, system}
 use Rattle.session.specs.Limits.{maxNodes, maxChanges, fixedSize}
@@ -13,7 +13,7 @@ use Rattle.session.specs.Trigger.{Trigger, Graph, Marks, states, nodes, linked,
 use Rattle.session.specs.Layout.{triggerOf, graphOf, marksOf, inLayout}
 use Rattle.bits.specs.Word.{members}
 use Rattle.refinement.specs.Tables.{marked, endsAt}
-use Rattle.promises.specs.Standing.{pairsOf, fresh}
+use Rattle.promises.specs.Standing.{pairsOf, fresh, trialSet}
 use Rattle.promises.specs.Rules.{Rule, rule, Kind, insertion, deletion}
 use Rattle.reports.specs.Marks.{Inside}
 
@@ -46,6 +46,13 @@ unfoldable pub aloneAt : List ℕ → ℕ → ℕ → Bool
 aloneAt xs a w =
     let es = graphOf xs .edges in
     allBelow (length es) (λ k. not (endsAt es a k) || not (freshAmong xs w (getD es k 0 / maxNodes)))
+
+-- what trying leaves: of the trial set of (a, b), which some table holds, the pairs that begin to stand, and the number of all that were tried
+pub record Begun (xs : List ℕ) (a b : ℕ) (ts : List ℕ) (n : ℕ) : Type 0 where
+  pub trials : List ℕ
+  pub tried : Holds xs (trialSet (triggerOf xs) (graphOf xs) (marksOf xs) a b) trials
+  pub left : Holds xs (refined (system (pattern (triggerOf xs) (graphOf xs))) (markedPairs xs) (pairsOf (triggerOf xs) (graphOf xs) (marked trials))) ts
+  pub counted : n ≡ count (getD xs 1 0 * getD xs 0 0) (λ p. marked trials (p % getD xs 0 0) (p / getD xs 0 0))
 
 -- the pairs that Y supports
 abbrev pub backed : List ℕ → Set → Set

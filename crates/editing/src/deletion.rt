@@ -12,7 +12,7 @@ ghost use Rattle.promises.specs.Promises.{Done, ceased};
 ghost use Rattle.editing.specs.Steps.{steadyAt, Ceased};
 use edges::held::remove_edge;
 use refinement::refine::edges_from;
-use refinement::refine::refine_alone;
+use refinement::refine::refine_few;
 use refinement::refine::unmet;
 use refinement::worklist::WAITING_WORDS;
 use refinement::worklist::put_in;
@@ -29,8 +29,12 @@ pub fn steady(session: &[u32], node: u32) -> bool
     ensures { λ r. ⌜ r ≡ steadyAt (now (session .entry)) node ⌝ }
 {
     let marks = marks_of(session);
+    let word = marks[node as usize];
+    if word == 0 {
+        return true;
+    }
     let edges = edges_from(edges_of(session), node as usize);
-    unmet(marks[node as usize], links_of(session), edges, marks, marks) == 0
+    unmet(word, links_of(session), edges, marks, marks) == 0
 }
 
 // Refines a table with the marks of the session from the node where an edge went.
@@ -41,10 +45,12 @@ pub fn cease(session: &[u32], start: u32, table: &mut [u32])
     let nodes = session[1] as usize;
     let mut waiting = [0u32; WAITING_WORDS];
     put_in(&mut waiting, start as usize);
-    refine_alone(
+    let settled = [0u32; session::MAX_NODES];
+    refine_few(
         links_of(session),
         edges_of(session),
         nodes,
+        &settled,
         table,
         &mut waiting,
     );

@@ -16,7 +16,7 @@ ghost use Rattle.promises.specs.Rules.{insertion, graphRules, verdict};
 ghost use Rattle.promises.specs.Promises.{Done};
 ghost use Rattle.reports.specs.Marks.{Inside};
 ghost use Rattle.editing.specs.Steps.{Holds, markedPairs, freshPairs, seedsOf};
-use super::alone::alone;
+use super::outcome::try_out;
 use edges::held::insert_edge;
 use refinement::links::linking;
 use refinement::refine::refine;
@@ -24,7 +24,6 @@ use refinement::starts::STARTS;
 use refinement::starts::index_starts;
 use refinement::table::admitted;
 use refinement::worklist::WAITING_WORDS;
-use refinement::worklist::index;
 use refinement::worklist::put_in;
 use reports::marks::store_marks;
 use reports::parts::edges_of;
@@ -36,7 +35,6 @@ use reports::parts::values_of;
 use trials::grow::grow;
 use trials::table::admitted_at;
 use trials::table::call_all;
-use trials::table::pairs_in;
 use trials::table::put_together;
 use trials::table::take_away;
 
@@ -100,29 +98,6 @@ pub fn try_pairs(
     );
 }
 
-// Puts the trial set that the seeds begin into a table that is zero. Where it is more than the seeds, an index is built; how many heads it has.
-pub fn try_seeds(
-    session: &[u32],
-    start: u32,
-    seeds: u32,
-    heads: &mut [u32],
-    nexts: &mut [u32],
-    table: &mut [u32],
-) -> usize
-    requires { ⌜ (inLayout (now session) ≡ true) × (start < nodes (graphOf (now session))) × (length (now table) ≡ maxNodes) × ((v : ℕ) → getD (now table) v 0 ≡ 0) ⌝ }
-    requires { ⌜ (length (now heads) ≡ maxNodes) × (length (now nexts) ≡ maxEdges) × ((v : ℕ) → getD (now heads) v 0 ≡ 0) × ((b : ℕ) × (members seeds ≡ seedsOf (now session) start b)) ⌝ }
-    ensures { λ r. ⌜ ((b : ℕ) → members seeds ≡ seedsOf (now (session .entry)) start b → Holds (now (session .entry)) (trialSet (triggerOf (now (session .entry))) (graphOf (now (session .entry))) (marksOf (now (session .entry))) start b) (now (table .exit))) × (r ≤ maxNodes) × ((length (take r (now (heads .exit))) ≡ 0 → ⊥) → Indexed (graphOf (now (session .entry)) .edges) (take r (now (heads .exit))) (now (nexts .exit))) ⌝ }
-{
-    let able = linking(links_of(session), seeds);
-    if alone(session, start, able) {
-        table[start as usize] = seeds;
-        return 0;
-    }
-    index(edges_of(session), heads, nexts);
-    try_pairs(session, start, seeds, heads, nexts, table);
-    session::MAX_NODES
-}
-
 // Up to this many trials the looks are few, and halving costs less than an index of all nodes.
 pub const FEW: u32 = 32;
 
@@ -142,7 +117,7 @@ pub fn starts_for(trials: u32, edges: &[u32], firsts: &mut [u32]) -> usize
 // Refines a table of trials beside the marks: what is left begins to stand. Their number only decides whether an index is built.
 pub fn begin(session: &[u32], trials: u32, heads: &[u32], nexts: &[u32], table: &mut [u32])
     requires { ⌜ (inLayout (now session) ≡ true) × (length (now table) ≡ maxNodes) × Inside (now session) (now table) ⌝ }
-    requires { ⌜ ((length (now heads) ≡ 0 → ⊥) → Indexed (graphOf (now session) .edges) (now heads) (now nexts)) ⌝ }
+    requires { ⌜ Indexed (graphOf (now session) .edges) (now heads) (now nexts) ⌝ }
     ensures { λ r. ⌜ Holds (now (session .entry)) (refined (system (pattern (triggerOf (now (session .entry))) (graphOf (now (session .entry))))) (markedPairs (now (session .entry))) (pairsOf (triggerOf (now (session .entry))) (graphOf (now (session .entry))) (marked (now (table .entry))))) (now (table .exit)) ⌝ }
 {
     let nodes = session[1] as usize;
@@ -174,14 +149,8 @@ pub fn insert_edit(session: &mut [u32], start: u32, end: u32) -> u32
     if seeds == 0 {
         return 0;
     }
-    let states = session[0];
-    let nodes = session[1] as usize;
-    let mut heads = [0u32; session::MAX_NODES];
-    let mut nexts = [0u32; session::MAX_EDGES];
     let mut table = [0u32; session::MAX_NODES];
-    let places = try_seeds(session, start, seeds, &mut heads, &mut nexts, &mut table);
-    let trials = pairs_in(&table, states, nodes);
-    begin(session, trials, &heads[..places], &nexts, &mut table);
+    let trials = try_out(session, start, seeds, &mut table);
     put_together(&mut table, marks_of(session));
     store_marks(session, &table);
     trials

@@ -3,4 +3,5 @@ pub mod alone;
 pub mod calls;
 pub mod deletion;
 pub mod insertion;
+pub mod outcome;
 pub mod rules;

@@ -6,7 +6,7 @@ ghost use lib.ListN.{length, getD};
 ghost use Rattle.session.specs.Limits.{maxNodes};
 ghost use Rattle.session.specs.Layout.{inLayout};
 ghost use Rattle.matching.specs.Solved.{Solved};
-use refinement::refine::refine_alone;
+use refinement::refine::refine_indexed;
 use refinement::table::admitted;
 use refinement::worklist::WAITING_WORDS;
 use reports::parts::edges_of;
@@ -28,10 +28,12 @@ pub fn solve(session: &[u32], table: &mut [u32]) -> u32
         table,
     );
     let mut waiting = [4294967295u32; WAITING_WORDS];
-    refine_alone(
+    let settled = [0u32; session::MAX_NODES];
+    refine_indexed(
         links_of(session),
         edges_of(session),
         nodes,
+        &settled,
         table,
         &mut waiting,
     );

@@ -7,14 +7,14 @@ use mathlib.Core.Bool.{Bool, true, false, not, _&&_, _||_, and-true, and-false, 
 use mathlib.Core.List.{List}
 use lib.Dec.{ltb, eqb}
 use lib.ListN.{length, getD}
-use borrow.Author.Tests.{ltb-true, ltb-false, lt-ltb, le-ltb, eqb-true, eqb-false}
+use borrow.Author.Tests.{ltb-true, ltb-false, lt-ltb, le-ltb, eqb-true, eqb-false, eq-eqb}
 use lib.Bits.{bitOr}
-use Rattle.simulation.specs.Sets.{Set, none, also, without}
+use Rattle.simulation.specs.Sets.{Set, none, also, without, minus}
 use Rattle.simulation.proofs.Sets.{clash, split, same, refuted, and-make, and-l, and-r, or-l, or-r, or-take, not-make, any-make, any-take}
 use Rattle.simulation.proofs.Edges.{any-same}
 use Rattle.bits.specs.Word.{members, meets}
 use Rattle.bits.proofs.Words.{zero-members, or-members}
-use Rattle.refinement.specs.Tables.{linkedFrom}
+use Rattle.refinement.specs.Tables.{linkedFrom, linksTo}
 use Rattle.refinement.proofs.Admitting.{more-here, more-other}
 
 -- ---- the set B, with the numbers below u that pass the test P
@@ -164,3 +164,71 @@ module _ (links : List ℕ) (word : ℕ) where
             (λ h.
             let w = any-take (length links) (λ u. members rest u && members (getD links u 0) o) h in
             clash (and-l (members rest (w .0)) (members (getD links (w .0) 0) o) (w .2)) (ap (λ (x : ℕ). members x (w .0)) e ∙ zero-members (w .0)))
+
+-- ---- the states of a word without a link to one of the others: those of `rest` are still to be tested
+
+module _ (links : List ℕ) (word others : ℕ) where
+  pub record Thinned (left rest : ℕ) : Type 0 where
+    pub small : (u : ℕ) → members rest u ≡ true → u < length links
+    pub words : (u : ℕ) → members left u ≡ (members word u && (members rest u || not (linksTo links others u)))
+
+  pub thinned-start : (rest : ℕ) → ((u : ℕ) → members rest u ≡ (members word u && ltb u (length links))) → Thinned word rest
+  thinned-start rest e =
+      record {
+        small = λ u m. ltb-true u (length links) (and-r (members word u) (ltb u (length links)) (sym (e u) ∙ m));
+        words = λ u.
+            ⊎-elim
+            (λ (t : members word u ≡ true).
+            ⊎-elim
+            (λ (l : ltb u (length links) ≡ true). rw (e u, t, l) refl)
+            (λ (l : ltb u (length links) ≡ false). rw (e u, t, l) refl)
+            (split (ltb u (length links))))
+            (λ (t : members word u ≡ false). rw t refl)
+            (split (members word u));
+      }
+
+  module _ (left rest : ℕ) (r : Thinned left rest) (u rest' : ℕ) (m : members rest u ≡ true) (e : members rest' ≡ without (members rest) u) where
+    at : (x : ℕ) → members rest' x ≡ (members rest x && not (eqb x u))
+    at x = ap (λ (X : Set). X x) e
+
+    fewer-small : (x : ℕ) → members rest' x ≡ true → x < length links
+    fewer-small x h = r .small x (and-l (members rest x) (not (eqb x u)) (sym (at x) ∙ h))
+
+    -- at another state nothing moves
+    elsewhere : (x : ℕ) → eqb x u ≡ false → members left x ≡ (members word x && (members rest' x || not (linksTo links others x)))
+    elsewhere x t =
+        let still : members rest' x ≡ members rest x = at x ∙ rw t (and-true (members rest x)) in
+        r .words x ∙ ap (λ (b : Bool). members word x && (b || not (linksTo links others x))) (sym still)
+
+    done-with : members rest' u ≡ false
+    done-with = at u ∙ rw (eq-eqb u u refl) (and-false (members rest u))
+
+    inside : ltb u (length links) ≡ true
+    inside = lt-ltb u (length links) (r .small u m)
+
+    pub thinned-out : meets (getD links u 0) others ≡ true → (left' : ℕ) → members left' ≡ without (members left) u → Thinned left' rest'
+    thinned-out some left' out =
+        record {
+          small = fewer-small;
+          words = λ x.
+              ap (λ (X : Set). X x) out
+              ∙ ⊎-elim
+              (λ (t : eqb x u ≡ true). rw (eqb-true x u t, eq-eqb u u refl, done-with, inside, some) (and-false (members left u) ∙ sym (and-false (members word u))))
+              (λ (t : eqb x u ≡ false). rw t (and-true (members left x) ∙ elsewhere x t))
+              (split (eqb x u));
+        }
+
+    pub thinned-pass : meets (getD links u 0) others ≡ false → Thinned left rest'
+    thinned-pass none =
+        record {
+          small = fewer-small;
+          words = λ x.
+              ⊎-elim
+              (λ (t : eqb x u ≡ true). rw (eqb-true x u t, done-with, inside, none) (r .words u ∙ rw m refl))
+              (λ (t : eqb x u ≡ false). elsewhere x t)
+              (split (eqb x u));
+        }
+
+  pub thinned-done : (left rest : ℕ) → Thinned left rest → rest ≡ 0 → members left ≡ minus (members word) (linksTo links others)
+  thinned-done left rest r e =
+      fun-ext (λ u. r .words u ∙ ap (λ (b : Bool). members word u && (b || not (linksTo links others u))) (ap (λ (x : ℕ). members x u) e ∙ zero-members u))

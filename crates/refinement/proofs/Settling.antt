@@ -26,7 +26,7 @@ use Rattle.simulation.proofs.Edges.{all-same, elem-joins, joins-elem, from-le, 
 use Rattle.bits.specs.Word.{members, meets}
 use Rattle.bits.proofs.Words.{same-below}
 use Rattle.session.specs.Limits.{maxNodes}
-use Rattle.refinement.specs.Tables.{marked, linksTo, carried, whole, keptOf, edgesFrom, waits, endsAt, precedes, Sound, Turned, patternOf, tabled, Settled}
+use Rattle.refinement.specs.Tables.{marked, linksTo, carried, whole, keptOf, edgesFrom, waits, endsAt, precedes, Sound, Turned, patternOf, tabled, Refining, Settled}
 
 -- ---- the edges from a node
 
@@ -361,20 +361,7 @@ module _ (nodes : ℕ) (links es : List ℕ) (sound : Sound nodes links es) wher
     -- ---- the whole refinement, from the table ts₀ and the nodes ws₀
 
     module _ (ts₀ ws₀ : List ℕ) where
-      -- what holds before each look, where v is the lowest node that waits
-      pub record Refining (ts ws : List ℕ) (v : ℕ) : Type 0 where
-        pub long : length ts ≡ maxNodes
-        pub waits-long : length ws ≡ 16
-        pub lowest : v ≡ first (waits ws) 0 maxNodes
-        pub within : (u w : ℕ) → marked ts u w ≡ true → marked ts₀ u w ≡ true
-        pub refines : refined (system (patternOf nodes links es)) (tabled nodes links es ss) (tabled nodes links es ts)
-            ≡ refined (system (patternOf nodes links es)) (tabled nodes links es ss) (tabled nodes links es ts₀)
-        pub supports : ((p : ℕ) → p < nodes * length links → In (tabled nodes links es ts₀) p → waits ws₀ (p / length links) ≡ false
-            → In (supported (system (patternOf nodes links es)) (union (tabled nodes links es ss) (tabled nodes links es ts₀))) p)
-            → (p : ℕ) → p < nodes * length links → In (tabled nodes links es ts) p → waits ws (p / length links) ≡ false
-            → In (supported (system (patternOf nodes links es)) (union (tabled nodes links es ss) (tabled nodes links es ts))) p
-
-      pub refining-start : (v : ℕ) → length ts₀ ≡ maxNodes → length ws₀ ≡ 16 → v ≡ first (waits ws₀) 0 maxNodes → Refining ts₀ ws₀ v
+      pub refining-start : (v : ℕ) → length ts₀ ≡ maxNodes → length ws₀ ≡ 16 → v ≡ first (waits ws₀) 0 maxNodes → Refining nodes links es ss ts₀ ws₀ ts₀ ws₀ v
       refining-start v long waits-long lowest = record {
         long = long;
         waits-long = waits-long;
@@ -384,8 +371,8 @@ module _ (nodes : ℕ) (links es : List ℕ) (sound : Sound nodes links es) wher
         supports = λ h. h;
       }
 
-      pub refining-turn : (ts ws : List ℕ) (v : ℕ) (ts' ws' : List ℕ) (v' : ℕ) → Refining ts ws v → Turned links es ss ts ws v ts' ws'
-          → v' ≡ first (waits ws') 0 maxNodes → Refining ts' ws' v'
+      pub refining-turn : (ts ws : List ℕ) (v : ℕ) (ts' ws' : List ℕ) (v' : ℕ) → Refining nodes links es ss ts₀ ws₀ ts ws v → Turned links es ss ts ws v ts' ws'
+          → v' ≡ first (waits ws') 0 maxNodes → Refining nodes links es ss ts₀ ws₀ ts' ws' v'
       refining-turn ts ws v ts' ws' v' r turned lowest = record {
         long = turned .table-long ∙ r .long;
         waits-long = turned .waits-long ∙ r .waits-long;
@@ -406,7 +393,7 @@ module _ (nodes : ℕ) (links es : List ℕ) (sound : Sound nodes links es) wher
               (λ e. ap (λ (x : ℕ). members x u) (sym (turned .others w (eqb-false w v e))) ∙ h)
               (split (eqb w v))
 
-      pub refining-less : (ts ws : List ℕ) (v : ℕ) (ts' ws' : List ℕ) → Refining ts ws v → v < nodes → Turned links es ss ts ws v ts' ws'
+      pub refining-less : (ts ws : List ℕ) (v : ℕ) (ts' ws' : List ℕ) → Refining nodes links es ss ts₀ ws₀ ts ws v → v < nodes → Turned links es ss ts ws v ts' ws'
           → 513 * count (nodes * length links) (tabled nodes links es ts') + count maxNodes (waits ws')
           < 513 * count (nodes * length links) (tabled nodes links es ts) + count maxNodes (waits ws)
       refining-less ts ws v ts' ws' r inside turned =
@@ -414,7 +401,7 @@ module _ (nodes : ℕ) (links es : List ℕ) (sound : Sound nodes links es) wher
           (rw (r .lowest) (first-at (waits ws) 0 maxNodes (omega arith) (omega (arith, r .lowest, sound .few-nodes))))
 
       -- when no node waits, what is left is refined; a table has no mark past the nodes
-      pub refining-end : (ts ws : List ℕ) (v : ℕ) → Refining ts ws v → nodes ≤ v → ((u w : ℕ) → marked ts₀ u w ≡ true → w < nodes) → length ts₀ ≡ maxNodes
+      pub refining-end : (ts ws : List ℕ) (v : ℕ) → Refining nodes links es ss ts₀ ws₀ ts ws v → nodes ≤ v → ((u w : ℕ) → marked ts₀ u w ≡ true → w < nodes) → length ts₀ ≡ maxNodes
           → Settled nodes links es ss ts₀ ws₀ ts
       refining-end ts ws v r done outside long = record {
         long = r .long ∙ sym long;
@@ -430,4 +417,14 @@ module _ (nodes : ℕ) (links es : List ℕ) (sound : Sound nodes links es) wher
             r .supports h q (div-lt-iff-lt-mul (sound .some-state) .0 inside) m
             (first-before (waits ws) 0 maxNodes (q / n) (omega arith) (omega (arith, r .lowest)))))
             ∙ r .refines);
+      }
+
+      -- a refinement that goes on from there leaves what one from the beginning does
+      pub refining-then : (ts ws : List ℕ) (v : ℕ) (ts' : List ℕ) → Refining nodes links es ss ts₀ ws₀ ts ws v → Settled nodes links es ss ts ws ts' → length ts₀ ≡ maxNodes
+          → Settled nodes links es ss ts₀ ws₀ ts'
+      refining-then ts ws v ts' r further long = record {
+        long = further .long ∙ r .long ∙ sym long;
+        within = λ u w h. r .within u w (further .within u w h);
+        holds = λ p h. further .holds p (subst (λ (X : Set). In X p) (sym (r .refines)) h);
+        exact = λ h p l. further .exact (r .supports h) p l ∙ ap (λ (X : Set). X p) (r .refines);
       }

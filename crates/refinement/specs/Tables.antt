@@ -6,7 +6,7 @@ use mathlib.Core.List.{List}
 use lib.Dec.{ltb, eqb}
 use lib.ListN.{length, getD, take, drop}
 use Rattle.simulation.specs.Sets.{Set, In, union, minus, without, anyBelow, allBelow, count}
-use Rattle.simulation.specs.Search.{found}
+use Rattle.simulation.specs.Search.{first, found}
 use Rattle.simulation.specs.Ordered.{ascends, from, joins}
 use Rattle.simulation.specs.System.{supported, refined}
 use Rattle.simulation.specs.Pattern.{Pattern, paired, system, plain}
@@ -125,6 +125,20 @@ patternOf nodes links es = plain (length links) nodes (λ u o. members (getD lin
 
 abbrev pub tabled : ℕ → List ℕ → List ℕ → List ℕ → Set
 tabled nodes links es ts = paired (patternOf nodes links es) (marked ts)
+
+-- how far refinement of the table ts₀ from the nodes of ws₀ has come, where v is the lowest node that waits: nothing that the refined set holds went, and
+-- what does not wait is supported, where it was so at first
+pub record Refining (nodes : ℕ) (links es ss ts₀ ws₀ ts ws : List ℕ) (v : ℕ) : Type 0 where
+  pub long : length ts ≡ maxNodes
+  pub waits-long : length ws ≡ 16
+  pub lowest : v ≡ first (waits ws) 0 maxNodes
+  pub within : (u w : ℕ) → marked ts u w ≡ true → marked ts₀ u w ≡ true
+  pub refines : refined (system (patternOf nodes links es)) (tabled nodes links es ss) (tabled nodes links es ts)
+      ≡ refined (system (patternOf nodes links es)) (tabled nodes links es ss) (tabled nodes links es ts₀)
+  pub supports : ((p : ℕ) → p < nodes * length links → In (tabled nodes links es ts₀) p → waits ws₀ (p / length links) ≡ false
+      → In (supported (system (patternOf nodes links es)) (union (tabled nodes links es ss) (tabled nodes links es ts₀))) p)
+      → (p : ℕ) → p < nodes * length links → In (tabled nodes links es ts) p → waits ws (p / length links) ≡ false
+      → In (supported (system (patternOf nodes links es)) (union (tabled nodes links es ss) (tabled nodes links es ts))) p
 
 -- what refinement from the nodes that wait leaves of a table: between the refined set and what was given, and the refined set itself where
 -- every pair at a node that does not wait was supported

@@ -2,14 +2,15 @@
 ghost use mathlib.Core.Path.{_≡_};
 ghost use mathlib.Core.Bool.{true, not, _&&_};
 ghost use Prim.Native.Nat.{ℕ, _<_, _≤_, _^_};
-ghost use lib.ListN.{length, getD, replicate};
+ghost use lib.ListN.{length, getD};
 ghost use Rattle.bits.specs.Word.{members};
 ghost use Rattle.simulation.specs.Ordered.{ascends};
 ghost use Rattle.session.specs.Limits.{maxEdges, maxNodes};
 ghost use Rattle.session.specs.Layout.{below};
-ghost use Rattle.refinement.specs.Tables.{marked, carried, keptOf, unmetOf, edgesFrom, Started, Indexed, Sound, Turned, Settled};
+ghost use Rattle.refinement.specs.Tables.{marked, carried, keptOf, unmetOf, edgesFrom, Started, Indexed, Sound, Turned, Refining, Settled};
 use super::links::linked;
 use super::links::linking;
+use super::links::unlinked;
 use super::starts::STARTS;
 use super::starts::index_starts;
 use super::worklist::call_in;
@@ -71,7 +72,7 @@ pub fn kept(word: u32, links: &[u32], edges: &[u32], settled: &[u32], tentative:
     if lacking == 0 {
         return word;
     }
-    bits::difference(word, linking(links, lacking))
+    unlinked(links, word, lacking)
 }
 
 // The edges of the node v: by the index of first edges, or by halving where there is none.
@@ -131,7 +132,11 @@ pub fn turn(
     }
 }
 
-// Refines the tentative table beside the settled one, from the nodes that wait, the lowest first.
+// So many nodes are looked at before an index of all edges pays.
+pub const FEW: u32 = 2;
+
+// Refines the tentative table beside the settled one, from the nodes that wait, the lowest first. Without an index of incoming edges it stops
+// after a few looks. The lowest node that still waits.
 pub fn refine(
     links: &[u32],
     edges: &[u32],
@@ -142,13 +147,21 @@ pub fn refine(
     firsts: &[u32],
     heads: &[u32],
     nexts: &[u32],
-)
+) -> usize
     requires { ⌜ (length (now settled) ≡ maxNodes) × (length (now tentative) ≡ maxNodes) × (length (now waiting) ≡ 16) ⌝ }
-    requires { ⌜ Sound nodes (now links) (now edges) × ((length (now firsts) ≡ 0 → ⊥) → Started (now edges) (now firsts)) × ((length (now heads) ≡ 0 → ⊥) → Indexed (now edges) (now heads) (now nexts)) × ((u v : ℕ) → marked (now tentative) u v ≡ true → v < nodes) ⌝ }
-    ensures { λ r. ⌜ Settled nodes (now (links .entry)) (now (edges .entry)) (now (settled .entry)) (now (tentative .entry)) (now (waiting .entry)) (now (tentative .exit)) ⌝ }
+    requires { ⌜ Sound nodes (now links) (now edges) × ((length (now firsts) ≡ 0 → ⊥) → Started (now edges) (now firsts)) × ((length (now heads) ≡ 0 → ⊥) → Indexed (now edges) (now heads) (now nexts)) ⌝ }
+    ensures { λ r. ⌜ Refining nodes (now (links .entry)) (now (edges .entry)) (now (settled .entry)) (now (tentative .entry)) (now (waiting .entry)) (now (tentative .exit)) (now (waiting .exit)) r × ((length (now (heads .entry)) ≡ 0 → ⊥) → nodes ≤ r) ⌝ }
 {
+    let bare = heads.len() == 0;
+    let mut left = FEW;
     let mut v = lowest_in(waiting);
     while v < nodes {
+        if bare {
+            if left == 0 {
+                return v;
+            }
+            left -= 1;
+        }
         turn(
             links,
             edges,
@@ -162,35 +175,66 @@ pub fn refine(
         );
         v = lowest_in(waiting);
     }
+    v
 }
 
-// Refines a table with nothing settled beside it; the indexes are built here.
-pub fn refine_alone(
+// The same to the end, with both indexes, which are built here.
+pub fn refine_indexed(
     links: &[u32],
     edges: &[u32],
     nodes: usize,
+    settled: &[u32],
     tentative: &mut [u32],
     waiting: &mut [u32],
 )
-    requires { ⌜ (length (now tentative) ≡ maxNodes) × (length (now waiting) ≡ 16) ⌝ }
+    requires { ⌜ (length (now settled) ≡ maxNodes) × (length (now tentative) ≡ maxNodes) × (length (now waiting) ≡ 16) ⌝ }
     requires { ⌜ Sound nodes (now links) (now edges) × ((u v : ℕ) → marked (now tentative) u v ≡ true → v < nodes) ⌝ }
-    ensures { λ r. ⌜ Settled nodes (now (links .entry)) (now (edges .entry)) (replicate maxNodes 0) (now (tentative .entry)) (now (waiting .entry)) (now (tentative .exit)) ⌝ }
+    ensures { λ r. ⌜ Settled nodes (now (links .entry)) (now (edges .entry)) (now (settled .entry)) (now (tentative .entry)) (now (waiting .entry)) (now (tentative .exit)) ⌝ }
 {
     let mut firsts = [0u32; STARTS];
     index_starts(edges, &mut firsts);
     let mut heads = [0u32; session::MAX_NODES];
     let mut nexts = [0u32; session::MAX_EDGES];
     index(edges, &mut heads, &mut nexts);
-    let settled = [0u32; session::MAX_NODES];
     refine(
         links,
         edges,
         nodes,
-        &settled,
+        settled,
         tentative,
         waiting,
         &firsts,
         &heads,
         &nexts,
     );
+}
+
+// The same where few nodes wait: the first looks make do without an index, and often there are no more.
+pub fn refine_few(
+    links: &[u32],
+    edges: &[u32],
+    nodes: usize,
+    settled: &[u32],
+    tentative: &mut [u32],
+    waiting: &mut [u32],
+)
+    requires { ⌜ (length (now settled) ≡ maxNodes) × (length (now tentative) ≡ maxNodes) × (length (now waiting) ≡ 16) ⌝ }
+    requires { ⌜ Sound nodes (now links) (now edges) × ((u v : ℕ) → marked (now tentative) u v ≡ true → v < nodes) ⌝ }
+    ensures { λ r. ⌜ Settled nodes (now (links .entry)) (now (edges .entry)) (now (settled .entry)) (now (tentative .entry)) (now (waiting .entry)) (now (tentative .exit)) ⌝ }
+{
+    let none = &edges[..0];
+    let v = refine(
+        links,
+        edges,
+        nodes,
+        settled,
+        tentative,
+        waiting,
+        none,
+        none,
+        none,
+    );
+    if v < nodes {
+        refine_indexed(links, edges, nodes, settled, tentative, waiting);
+    }
 }

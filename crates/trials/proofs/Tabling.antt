@@ -1,5 +1,5 @@
 -- Loops over a table or a set: a set that gains what passes a test, a table changed word by word, the pairs counted node by node.
-use Prim.Native.Nat.{ℕ, suc, _+_, _*_, _/_, _%_, _^_, _<_, _≤_, zero-le}
+use Prim.Native.Nat.{ℕ, zero, suc, _+_, _*_, _/_, _%_, _^_, _<_, _≤_, zero-le}
 use native.Mathlib.Numerals.{add-one}
 use native.Mathlib.Omega.{arith}
 use mathlib.Core.Path.{_≡_, refl, sym, ap, ap₂, fun-ext, _∙_}
@@ -117,3 +117,27 @@ module _ (ts : List ℕ) (n : ℕ) where
         let all : count (suc v * n) X ≡ count n (λ u. X (v * n + u)) + total v (λ w. count n (λ u. X (w * n + u))) = count-rows n (suc v) X in
         let before : count (v * n) X ≡ total v (λ w. count n (λ u. X (w * n + u))) = count-rows n v X in
         rw (add-one v) (omega (arith, all, before, here, row))
+
+  -- one word alone: its pairs are all
+  module _ (few : n ≤ 16) (inside : (u v : ℕ) → marked ts u v ≡ true → u < n) (a : ℕ) (alone : (v : ℕ) → (v ≡ a → ⊥) → getD ts v 0 ≡ 0) where
+    no-member : count 32 (members 0) ≡ 0
+    unfolding count
+    no-member = refl
+
+    idle : (v : ℕ) → (v ≡ a → ⊥) → pairsTo (v + 1) ≡ pairsTo v
+    idle v ne =
+        let no-pair : count 32 (members (getD ts v 0)) ≡ 0 = ap (λ (w : ℕ). count 32 (members w)) (alone v ne) ∙ no-member in
+        omega (arith, pairs-more few inside v, no-pair)
+
+    up-to : (k : ℕ) → k ≤ a → pairsTo k ≡ 0
+    up-to zero l = sym pairs-none
+    up-to (suc k) l = ap pairsTo (sym (add-one k)) ∙ idle k (λ e. omega (arith, l, e)) ∙ up-to k (omega (arith, l))
+
+    pub pairs-single : (k : ℕ) → a < k → pairsTo k ≡ count 32 (members (getD ts a 0))
+    pairs-single zero l = absurd (omega (arith, l))
+    pairs-single (suc k) l =
+        ap pairsTo (sym (add-one k))
+        ∙ ⊎-elim
+        (λ (e : eqb k a ≡ true). rw (eqb-true k a e) (omega (arith, pairs-more few inside a, up-to a (omega arith))))
+        (λ (e : eqb k a ≡ false). let ne = eqb-false k a e in idle k ne ∙ pairs-single k (omega (arith, l, ne)))
+        (split (eqb k a))

@@ -1,12 +1,12 @@
 -- The marks are refined from the edge's start, with nothing settled.
-use Rattle.editing.proofs.Refining.{start-waits, marks-inside, marks-ceased}
+use native.Mathlib.Omega.{arith}
+use mathlib.Core.Path.{refl, ap, _∙_}
+use lib.ListN.{length, replicate}
+use Rattle.session.proofs.Decoded.{Bounded, layout-limits, layout-facts}
 use Rattle.refinement.proofs.Turns.{zeros}
 use Rattle.reports.proofs.Held.{held-sound, marks-long}
-use Rattle.session.proofs.Decoded.{Bounded, layout-limits, layout-facts}
+use Rattle.editing.proofs.Refining.{start-waits, marks-inside, marks-ceased}
 use borrow.Author.Needs.{needs}
-use lib.ListN.{length, replicate}
-use mathlib.Core.Path.{refl, ap, _∙_}
-use native.Mathlib.Omega.{arith}
 use Rattle.editing.proofs.deletion.cease.Statement.{statement}
 use Rattle.editing.proofs.deletion.cease.Tie as tie
 
@@ -36,15 +36,18 @@ links-of-requires c κs = search needs
 edges-of-requires : tie.Need-edges-of-requires
 edges-of-requires c κs = search needs
 
-slice-aggregate-refine-alone : tie.Need-slice-aggregate-refine-alone
-slice-aggregate-refine-alone c = search needs
+slice-aggregate-refine-few : tie.Need-slice-aggregate-refine-few
+slice-aggregate-refine-few c = search needs
 
-refine-alone-requires : tie.Need-refine-alone-requires
-refine-alone-requires c κs =
-    let s = start (c .before .before .before .before .before .before .before) in
+slice-aggregate-refine-few-2 : tie.Need-slice-aggregate-refine-few-2
+slice-aggregate-refine-few-2 c = search needs
+
+refine-few-requires : tie.Need-refine-few-requires
+refine-few-requires c κs =
+    let s = start (c .before .before .before .before .before .before .before .before) in
     let xs = s .args .session .now in (
-      (ap length (s .pre .2) ∙ marks-long xs (s .pre .0), c .before .before .before .before .before .put-in .ensures .0),
-      (held-sound xs (s .pre .0) _ _ (c .before .before .before .links-of .ensures) (c .before .before .edges-of .ensures), marks-inside xs (s .pre .0) _ (s .pre .2)),
+      (refl, ap length (s .pre .2) ∙ marks-long xs (s .pre .0), c .before .before .before .before .before .before .put-in .ensures .0),
+      (held-sound xs (s .pre .0) _ _ (c .before .before .before .before .links-of .ensures) (c .before .before .before .edges-of .ensures), marks-inside xs (s .pre .0) _ (s .pre .2)),
     )
 
 same-length : tie.Need-same-length
@@ -52,10 +55,10 @@ same-length c = search needs
 
 returns : tie.Need-returns
 returns c =
-    let s = start (c .before .before .before .before .before .before .before .before .before .before .before) in
+    let s = start (c .before .before .before .before .before .before .before .before .before .before .before .before) in
     let xs = s .args .session .now in
-    let put = c .before .before .before .before .before .before .before .before .before .put-in in
-    marks-ceased xs (s .pre .0) _ _ (c .before .before .before .before .before .before .before .links-of .ensures) (c .before .before .before .before .before .before .edges-of .ensures) _ _ _ _ (c .before .before .before .refine-alone .ensures)
+    let put = c .before .before .before .before .before .before .before .before .before .before .put-in in
+    marks-ceased xs (s .pre .0) _ _ (c .before .before .before .before .before .before .before .before .links-of .ensures) (c .before .before .before .before .before .before .before .edges-of .ensures) _ _ _ _ (c .before .before .before .refine-few .ensures)
     (s .args .start) (zeros 512) (s .pre .2) (ap length (s .pre .2) ∙ marks-long xs (s .pre .0))
     (start-waits (replicate 16 0) (put .last .0) (s .args .start) (put .ensures .1))
 
@@ -69,7 +72,8 @@ cease-spec =
     put-in-requires
     links-of-requires
     edges-of-requires
-    slice-aggregate-refine-alone
-    refine-alone-requires
+    slice-aggregate-refine-few
+    slice-aggregate-refine-few-2
+    refine-few-requires
     same-length
     returns)

@@ -1,19 +1,20 @@
--- The trials are refined beside the marks, from every node that has one.
-use Rattle.editing.proofs.Refining.{trials-refined}
-use Rattle.refinement.proofs.Turns.{zeros, sound-below}
-use Rattle.refinement.specs.Tables.{waits}
-use Rattle.reports.proofs.Held.{held-sound, marks-long}
-use Rattle.session.proofs.Decoded.{Bounded, layout-limits, layout-facts}
-use Rattle.session.specs.Layout.{triggerOf}
-use Rattle.simulation.proofs.Sets.{or-r, not-make}
-use borrow.Author.Needs.{needs}
-use borrow.Author.Tests.{ne-eqb}
+-- The trials are refined beside the marks, from every node that has one, to the end, since there is an index.
+use native.Mathlib.Omega.{arith}
+use mathlib.Core.Bool.{not}
+use mathlib.Core.Path.{_≡_, refl, sym, _∙_, ap}
 use lib.Dec.{eqb}
 use lib.ListN.{length, getD, replicate}
 use lib.Seq.{length-take-le}
-use mathlib.Core.Bool.{not}
-use mathlib.Core.Path.{_≡_, refl, sym, _∙_, ap}
-use native.Mathlib.Omega.{arith}
+use borrow.Author.Tests.{ne-eqb}
+use Rattle.simulation.proofs.Sets.{or-r, not-make}
+use Rattle.session.specs.Layout.{triggerOf}
+use Rattle.session.proofs.Decoded.{Bounded, layout-limits, layout-facts}
+use Rattle.refinement.specs.Tables.{waits}
+use Rattle.refinement.proofs.Turns.{zeros, sound-below}
+use Rattle.refinement.proofs.Settling.{refining-end}
+use Rattle.reports.proofs.Held.{held-sound, marks-long}
+use Rattle.editing.proofs.Refining.{trials-refined}
+use borrow.Author.Needs.{needs}
 use Rattle.editing.proofs.insertion.begin.Statement.{statement}
 use Rattle.editing.proofs.insertion.begin.Tie as tie
 
@@ -33,7 +34,7 @@ slice-aggregate-call-all : tie.Need-slice-aggregate-call-all
 slice-aggregate-call-all c = search needs
 
 call-all-requires : tie.Need-call-all-requires
-call-all-requires c κs = (start (c .before .before) .pre .0 .1, refl)
+call-all-requires c κs = search needs
 
 edges-of-requires : tie.Need-edges-of-requires
 edges-of-requires c κs = search needs
@@ -72,8 +73,7 @@ refine-requires c κs =
       (
         held-sound xs (s .pre .0 .0) _ _ (c .before .before .before .before .links-of .ensures) (c .before .before .before .before .before .before .before .before .edges-of .ensures),
         λ some. f .ensures .1 (λ none. some (length-take-le (f .result) (f .last .1 .1 .0) (omega (arith, f .ensures .0)) ∙ none)),
-        rw (c .before .before .before .before .before .before .before .before .edges-of .ensures) (s .pre .1),
-        λ u v e. omega (arith, layout-facts xs (s .pre .0 .0) .counts .1, s .pre .0 .2 u v e .1),
+        λ some. rw (c .before .before .before .before .before .before .before .before .edges-of .ensures) (s .pre .1),
       ),
     )
 
@@ -84,7 +84,11 @@ returns : tie.Need-returns
 returns c =
     let s = start (c .before .before .before .before .before .before .before .before .before .before .before .before .before .before .before .before .before) in
     let xs = s .args .session .now in
-    trials-refined xs (s .pre .0 .0) _ _ (c .before .before .before .before .before .before .before .before .links-of .ensures) (c .before .before .before .before .before .before .before .before .before .before .before .before .edges-of .ensures) _ _ _ _ (c .before .before .before .refine .ensures)
+    let r = c .before .before .before .refine .ensures in
+    let sound = held-sound xs (s .pre .0 .0) _ _ (c .before .before .before .before .before .before .before .before .links-of .ensures) (c .before .before .before .before .before .before .before .before .before .before .before .before .edges-of .ensures) in
+    let few = layout-facts xs (s .pre .0 .0) .counts .1 in
+    trials-refined xs (s .pre .0 .0) _ _ (c .before .before .before .before .before .before .before .before .links-of .ensures) (c .before .before .before .before .before .before .before .before .before .before .before .before .edges-of .ensures) _ _ _ _
+    (refining-end _ _ _ sound _ _ _ _ _ _ (r .0) (r .1 (λ none. omega (arith, none, s .pre .1 .heads-long))) (λ u v e. omega (arith, few, s .pre .0 .2 u v e .1)) (s .pre .0 .1))
     (c .before .before .before .before .before .before .before .marks-of .ensures) (s .pre .0 .1) (s .pre .0 .2)
     (λ v some. c .before .before .before .before .before .before .before .before .before .before .before .before .before .before .call-all .ensures .1 v ∙ or-r (waits (replicate 16 0) v) (not-make (ne-eqb (getD (s .args .table .now) v 0) 0 some)))
 

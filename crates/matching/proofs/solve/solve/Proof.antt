@@ -44,18 +44,21 @@ links-of-requires c κs = search needs
 edges-of-requires : tie.Need-edges-of-requires
 edges-of-requires c κs = search needs
 
-slice-aggregate-refine-alone : tie.Need-slice-aggregate-refine-alone
-slice-aggregate-refine-alone c = search needs
+slice-aggregate-refine-indexed : tie.Need-slice-aggregate-refine-indexed
+slice-aggregate-refine-indexed c = search needs
 
-refine-alone-requires : tie.Need-refine-alone-requires
-refine-alone-requires c κs =
-    let s = start (c .before .before .before .before .before .before .before .before .before .before .before) in
+slice-aggregate-refine-indexed-2 : tie.Need-slice-aggregate-refine-indexed-2
+slice-aggregate-refine-indexed-2 c = search needs
+
+refine-indexed-requires : tie.Need-refine-indexed-requires
+refine-indexed-requires c κs =
+    let s = start (c .before .before .before .before .before .before .before .before .before .before .before .before) in
     let xs = s .args .session .now in
-    let a = c .before .before .before .before .before .before .admitted .ensures in (
-      (a .long, refl),
+    let a = c .before .before .before .before .before .before .before .admitted .ensures in (
+      (refl, a .long, refl),
       (
-        held-sound xs (s .pre .0) _ _ (c .before .before .before .links-of .ensures) (c .before .before .edges-of .ensures),
-        held-inside xs (s .pre .0) _ _ _ (c .before .before .before .before .before .before .before .before .before .before .masks-of .ensures) (c .before .before .before .before .before .before .before .before .before .values-of .ensures) (c .before .before .before .before .before .before .before .before .samples-of .ensures) _ _ a,
+        held-sound xs (s .pre .0) _ _ (c .before .before .before .before .links-of .ensures) (c .before .before .before .edges-of .ensures),
+        held-inside xs (s .pre .0) _ _ _ (c .before .before .before .before .before .before .before .before .before .before .before .masks-of .ensures) (c .before .before .before .before .before .before .before .before .before .before .values-of .ensures) (c .before .before .before .before .before .before .before .before .before .samples-of .ensures) _ _ a,
       ),
     )
 
@@ -64,9 +67,9 @@ same-length c = search needs
 
 returns : tie.Need-returns
 returns c =
-    let s = start (c .before .before .before .before .before .before .before .before .before .before .before .before .before .before .before) in
-    held-solved (s .args .session .now) (s .pre .0) _ _ _ (c .before .before .before .before .before .before .before .before .before .before .before .before .before .before .masks-of .ensures) (c .before .before .before .before .before .before .before .before .before .before .before .before .before .values-of .ensures) (c .before .before .before .before .before .before .before .before .before .before .before .before .samples-of .ensures) _ _
-    (c .before .before .before .before .before .before .before .before .before .before .admitted .ensures) _ _ _ _ _ (c .before .before .before .before .before .before .before .links-of .ensures) (c .before .before .before .before .before .before .edges-of .ensures) (zeros 512) all-wait (c .before .before .before .refine-alone .ensures)
+    let s = start (c .before .before .before .before .before .before .before .before .before .before .before .before .before .before .before .before) in
+    held-solved (s .args .session .now) (s .pre .0) _ _ _ (c .before .before .before .before .before .before .before .before .before .before .before .before .before .before .before .masks-of .ensures) (c .before .before .before .before .before .before .before .before .before .before .before .before .before .before .values-of .ensures) (c .before .before .before .before .before .before .before .before .before .before .before .before .before .samples-of .ensures) _ _
+    (c .before .before .before .before .before .before .before .before .before .before .before .admitted .ensures) _ _ _ _ _ (c .before .before .before .before .before .before .before .before .links-of .ensures) (c .before .before .before .before .before .before .before .edges-of .ensures) (zeros 512) all-wait (c .before .before .before .refine-indexed .ensures)
 
 pub solve-spec : {M : Type 1} → statement M
 solve-spec =
@@ -80,7 +83,8 @@ solve-spec =
     admitted-requires
     links-of-requires
     edges-of-requires
-    slice-aggregate-refine-alone
-    refine-alone-requires
+    slice-aggregate-refine-indexed
+    slice-aggregate-refine-indexed-2
+    refine-indexed-requires
     same-length
     returns)
