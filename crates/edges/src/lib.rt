@@ -3,7 +3,7 @@ ghost use mathlib.Core.Path.{_≡_};
 ghost use mathlib.Core.Bool.{true};
 ghost use mathlib.Core.List.{[], _∷_, _++_};
 ghost use Prim.Native.Nat.{ℕ, _-_, _<_, _≤_};
-ghost use lib.ListN.{length, take};
+ghost use lib.ListN.{length, take, drop};
 ghost use Rattle.simulation.specs.Ordered.{elem, ascends, insert, remove};
 
 pub mod held;
@@ -17,6 +17,32 @@ pub fn has_edge(edges: &[u32], code: u32) -> bool
     at < edges.len() && edges[at] == code
 }
 
+// Each word but the last moves up by one; the first keeps its word. A loop over a part from its own beginning is one block move.
+pub fn move_up(part: &mut [u32])
+    requires { ⌜ 0 < length (now part) ⌝ }
+    ensures { λ r. ⌜ now (part .exit) ≡ take 1 (now (part .entry)) ++ take (length (now (part .entry)) - 1) (now (part .entry)) ⌝ }
+{
+    let mut k = part.len() - 1;
+    while 0 < k {
+        part[k] = part[k - 1];
+        k -= 1;
+    }
+}
+
+// Each word but the first moves down by one, and the last place becomes zero.
+pub fn move_down(part: &mut [u32])
+    requires { ⌜ 0 < length (now part) ⌝ }
+    ensures { λ r. ⌜ now (part .exit) ≡ drop 1 (now (part .entry)) ++ (0 ∷ []) ⌝ }
+{
+    let last = part.len() - 1;
+    let mut k = 0;
+    while k < last {
+        part[k] = part[k + 1];
+        k += 1;
+    }
+    part[last] = 0;
+}
+
 // Puts an edge into the list that stands before the last place: those above it move up by one.
 pub fn put_edge(edges: &mut [u32], code: u32)
     requires { ⌜ (0 < length (now edges)) × (ascends (take (length (now edges) - 1) (now edges)) ≡ true) ⌝ }
@@ -24,11 +50,7 @@ pub fn put_edge(edges: &mut [u32], code: u32)
 {
     let last = edges.len() - 1;
     let at = session::place_of(&edges[..last], code);
-    let mut k = last;
-    while at < k {
-        edges[k] = edges[k - 1];
-        k -= 1;
-    }
+    move_up(&mut edges[at..]);
     edges[at] = code;
 }
 
@@ -37,11 +59,6 @@ pub fn drop_edge(edges: &mut [u32], code: u32)
     requires { ⌜ (ascends (now edges) ≡ true) × (elem code (now edges) ≡ true) ⌝ }
     ensures { λ r. ⌜ now (edges .exit) ≡ remove code (now (edges .entry)) ++ (0 ∷ []) ⌝ }
 {
-    let last = edges.len() - 1;
-    let mut k = session::place_of(edges, code);
-    while k < last {
-        edges[k] = edges[k + 1];
-        k += 1;
-    }
-    edges[last] = 0;
+    let at = session::place_of(edges, code);
+    move_down(&mut edges[at..]);
 }

@@ -1,108 +1,94 @@
--- The edges above the place of the new one move up one by one, from the back; then it is stored.
+-- The edges above the place of the new one move up by one; then it is stored.
 use borrow.Author.Needs.{needs}
 use native.Mathlib.Omega.{arith}
-use Prim.Native.Nat.{_-_, _<_, _≤_}
-use mathlib.Core.Path.{_≡_, sym, _∙_}
-use lib.ListN.{length, take}
+use Prim.Native.Nat.{_-_, _<_}
+use mathlib.Core.Path.{refl, sym, _∙_}
+use lib.ListN.{length, take, length-drop}
 use lib.Seq.{length-take-le}
+use borrow.Rule.Slice.PartMut.{same-len-mid}
 use Rattle.simulation.proofs.Ordered.{rising-take, place-le}
 use Rattle.edges.proofs.Places.{insert-place}
-use Rattle.edges.proofs.Moves.{Raised, raise-start, raise-step, raise-end}
+use Rattle.edges.proofs.Moves.{to-end, put-in}
 use Rattle.edges.proofs.put_edge.Statement.{statement}
 use Rattle.edges.proofs.put_edge.Tie as tie
 
-abbrev Inv-loop : tie.InvT-loop
-Inv-loop edges₀ code last at k₀ edges k = (at ≤ k) × (k < length edges₀) × Raised edges₀ edges k
-
-abbrev μ-loop : tie.MeasureT-loop
-μ-loop edges₀ code last at k₀ edges k = k
-
-sub-last : tie.Need-sub-last Inv-loop μ-loop
-sub-last c = search needs
-
-slice-reshare-prefix-place-of : tie.Need-slice-reshare-prefix-place-of Inv-loop μ-loop
-slice-reshare-prefix-place-of c = search needs
-
-slice-aggregate-place-of : tie.Need-slice-aggregate-place-of Inv-loop μ-loop
-slice-aggregate-place-of c = sym (length-take-le _ (c .before .before .args .edges .now) (omega arith))
-
-place-of-requires : tie.Need-place-of-requires Inv-loop μ-loop
-place-of-requires c κs = search needs
-
-loop-holds : tie.Need-loop-holds Inv-loop μ-loop
-loop-holds c =
+-- the place is among those before the last, or is the last
+stands : (c : tie.After-place-of) → c .place-of .result < length (c .before .before .before .args .edges .now)
+stands c =
     let s = c .before .before .before in
     let xs = s .args .edges .now in
     let front = take (length xs - 1) xs in
-    (omega (arith, c .place-of .ensures, place-le front (s .args .code), length-take-le (length xs - 1) xs (omega arith)), omega arith, raise-start xs (s .pre .0))
+    omega (arith, c .place-of .ensures, place-le front (s .args .code), length-take-le (length xs - 1) xs (omega arith))
 
-sub-edges : tie.Need-sub-edges Inv-loop μ-loop
-sub-edges c = search needs
+sub-last : tie.Need-sub-last
+sub-last c = search needs
 
-mul-edges : tie.Need-mul-edges Inv-loop μ-loop
-mul-edges c = search needs
+slice-reshare-prefix-place-of : tie.Need-slice-reshare-prefix-place-of
+slice-reshare-prefix-place-of c = search needs
 
-slice-read-edges : tie.Need-slice-read-edges Inv-loop μ-loop
-slice-read-edges c = search needs
+slice-aggregate-place-of : tie.Need-slice-aggregate-place-of
+slice-aggregate-place-of c = sym (length-take-le _ (c .before .before .args .edges .now) (omega arith))
 
-mul-edges-2 : tie.Need-mul-edges-2 Inv-loop μ-loop
-mul-edges-2 c = search needs
+place-of-requires : tie.Need-place-of-requires
+place-of-requires c κs = search needs
 
-slice-write-edges : tie.Need-slice-write-edges Inv-loop μ-loop
-slice-write-edges c = search needs
+mul-move-up : tie.Need-mul-move-up
+mul-move-up c = omega (arith, stands c)
 
-sub-k : tie.Need-sub-k Inv-loop μ-loop
-sub-k c = search needs
+sub-move-up : tie.Need-sub-move-up
+sub-move-up c = omega (arith, stands c)
 
-loop-less : tie.Need-loop-less Inv-loop μ-loop
-loop-less c = search needs
+part-move-up-start : tie.Need-part-move-up-start
+part-move-up-start c = omega (arith, stands c)
 
-loop-again : tie.Need-loop-again Inv-loop μ-loop
-loop-again c =
-    let s = c .before .before .before .before .before .before in
-    let l = c .before .before .loop in
-    (omega arith, omega arith, raise-step (s .args .edges .now) (l .edges) (l .k) (l .inv .2) (omega arith))
+part-move-up-end : tie.Need-part-move-up-end
+part-move-up-end c = search needs
 
-mul-edges-3 : tie.Need-mul-edges-3 Inv-loop μ-loop
-mul-edges-3 c = search needs
+move-up-requires : tie.Need-move-up-requires
+move-up-requires c κs =
+    let xs = c .before .before .before .before .args .edges .now in
+    let at = c .before .place-of .result in
+    rw (to-end xs at (length xs - at) (stands (c .before)) refl) (omega (arith, length-drop at xs, stands (c .before)))
 
-slice-write-edges-2 : tie.Need-slice-write-edges-2 Inv-loop μ-loop
-slice-write-edges-2 c = search needs
+mul-edges : tie.Need-mul-edges
+mul-edges c = omega (arith, stands (c .before .before .before .before))
 
-same-length : tie.Need-same-length Inv-loop μ-loop
+slice-write-edges : tie.Need-slice-write-edges
+slice-write-edges c =
+    let p = c .before .before .before .before in
+    let xs = p .before .before .before .args .edges .now in
+    let at = p .place-of .result in
+    let up = c .before .before .move-up in
+    rw (same-len-mid at (length xs - at) xs (up .last .0) (up .kept .0)) (stands p)
+
+same-length : tie.Need-same-length
 same-length c = search needs
 
-returns : tie.Need-returns Inv-loop μ-loop
+returns : tie.Need-returns
 returns c =
-    let s = c .before .before .before .before .before in
+    let p = c .before .before .before .before in
+    let s = p .before .before .before in
     let xs = s .args .edges .now in
     let front = take (length xs - 1) xs in
-    let l = c .before .loop in
-    let p = c .before .before .place-of in
-    let done : l .k ≡ p .result = omega arith in
-    raise-end xs (l .edges) (p .result) (s .args .code) (rw done at (l .inv .2))
-    ∙ sym (insert-place (s .args .code) front (p .result) (rising-take front (s .pre .1)) (p .ensures))
+    let at = p .place-of .result in
+    let up = c .before .before .move-up in
+    put-in xs at (length xs - at) (stands p) refl (s .args .code) (up .last .0) (up .ensures)
+    ∙ sym (insert-place (s .args .code) front at (rising-take front (s .pre .1)) (p .place-of .ensures))
 
 pub put-edge-spec : {M : Type 1} → statement M
 put-edge-spec =
     tie.close
     (tie.spec
-    Inv-loop
-    μ-loop
     sub-last
     slice-reshare-prefix-place-of
     slice-aggregate-place-of
     place-of-requires
-    loop-holds
-    sub-edges
+    mul-move-up
+    sub-move-up
+    part-move-up-start
+    part-move-up-end
+    move-up-requires
     mul-edges
-    slice-read-edges
-    mul-edges-2
     slice-write-edges
-    sub-k
-    loop-less
-    loop-again
-    mul-edges-3
-    slice-write-edges-2
     same-length
     returns)
