@@ -147,6 +147,13 @@ pub fn all_below(words: &[u32], limit: u32) -> bool
     faults == 0
 }
 
+// Whether each word is zero: their union tells.
+pub fn all_zero(words: &[u32]) -> bool
+    ensures { λ r. ⌜ r ≡ below 1 (now (words .entry)) ⌝ }
+{
+    bits::gathered(words) == 0
+}
+
 // Whether the used words' union has k bits, and that of the others none.
 pub fn unions_fit(inside: u32, unused: u32, k: u32) -> bool
     requires { ⌜ k ≤ 32 ⌝ }
@@ -335,7 +342,7 @@ pub fn graph_fits(session: &[u32], nodes: usize, edges: usize) -> bool
 {
     let end = EDGES_AT + edges;
     section_fits(&session[SAMPLES_AT..EDGES_AT], nodes, WORD_BITS)
-        && (all_below(&session[end..MARKS_AT], 1)
+        && (all_zero(&session[end..MARKS_AT])
             && (all_ascend(&session[EDGES_AT..end])
                 && all_named(&session[EDGES_AT..end], nodes as u32)))
 }

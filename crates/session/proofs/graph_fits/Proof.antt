@@ -10,12 +10,12 @@ use Rattle.session.proofs.graph_fits.Statement.{statement}
 use Rattle.session.proofs.graph_fits.Tie as tie
 
 -- the parts of the edges, by their lengths
-rest : (c : tie.After-all-below)
+rest : (c : tie.After-all-zero)
     → let a = c .before .before .before .before .before .before .args in
-    c .all-below .result ≡ below 1 (part (a .session .now) (563 + a .edges) (2048 - a .edges))
+    c .all-zero .result ≡ below 1 (part (a .session .now) (563 + a .edges) (2048 - a .edges))
 rest c =
     let a = c .before .before .before .before .before .before .args in
-    rw (sub-add-eq 2611 563 (a .edges)) at (c .all-below .ensures)
+    rw (sub-add-eq 2611 563 (a .edges)) at (c .all-zero .ensures)
 
 rises : (c : tie.After-all-ascend) → let a = c .before .before .before .before .before .before .before .before .before .args in c .all-ascend .result ≡ ascends (part (a .session .now) 563 (a .edges))
 rises c =
@@ -37,20 +37,20 @@ part-section-fits-end c = search needs
 section-fits-requires : tie.Need-section-fits-requires
 section-fits-requires c κs = search needs
 
-mul-all-below : tie.Need-mul-all-below
-mul-all-below c = search needs
+mul-all-zero : tie.Need-mul-all-zero
+mul-all-zero c = search needs
 
-sub-all-below : tie.Need-sub-all-below
-sub-all-below c = search needs
+sub-all-zero : tie.Need-sub-all-zero
+sub-all-zero c = search needs
 
-part-all-below-start : tie.Need-part-all-below-start
-part-all-below-start c = search needs
+part-all-zero-start : tie.Need-part-all-zero-start
+part-all-zero-start c = search needs
 
-part-all-below-end : tie.Need-part-all-below-end
-part-all-below-end c = search needs
+part-all-zero-end : tie.Need-part-all-zero-end
+part-all-zero-end c = search needs
 
-all-below-requires : tie.Need-all-below-requires
-all-below-requires c κs = search needs
+all-zero-requires : tie.Need-all-zero-requires
+all-zero-requires c κs = search needs
 
 sub-all-ascend : tie.Need-sub-all-ascend
 sub-all-ascend c = search needs
@@ -115,11 +115,11 @@ graph-fits-spec =
     part-section-fits-start
     part-section-fits-end
     section-fits-requires
-    mul-all-below
-    sub-all-below
-    part-all-below-start
-    part-all-below-end
-    all-below-requires
+    mul-all-zero
+    sub-all-zero
+    part-all-zero-start
+    part-all-zero-end
+    all-zero-requires
     sub-all-ascend
     part-all-ascend-start
     part-all-ascend-end
