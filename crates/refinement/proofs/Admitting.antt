@@ -34,6 +34,17 @@ more-other i k ne =
     (λ h. let l = ltb-true i (k + 1) h in lt-ltb i k (omega arith))
     (λ h. let l = ltb-true i k h in lt-ltb i (k + 1) (omega arith))
 
+-- a set of pairs that has the rows of A below k: its row k is put in
+pub row-more : (A X X' : ℕ → ℕ → Bool) (k : ℕ) → ((u v : ℕ) → X u v ≡ (ltb u k && A u v)) → ((u v : ℕ) → X' u v ≡ (X u v || (eqb u k && A k v)))
+    → (u v : ℕ) → X' u v ≡ (ltb u (k + 1) && A u v)
+row-more A X X' k old new u v =
+    ⊎-elim
+    (λ (t : eqb u k ≡ true).
+    let q : u ≡ k = eqb-true u k t in
+    rw (q, more-here k, new k v, old k v, le-ltb k k (omega arith), eq-eqb k k refl))
+    (λ (t : eqb u k ≡ false). rw (more-other u k (eqb-false u k t), new u v, t, or-false) (old u v))
+    (split (eqb u k))
+
 -- ---- a state: the nodes below k are seen
 
 pub agrees-test : (mask value sample : ℕ) → mask < 2 ^ 16 → eqb (bitAnd (bitXor value sample) mask) 0 ≡ agrees wordBits mask value sample
@@ -177,15 +188,10 @@ module _ (masks values samples : List ℕ) where
   unfolding total
   filled-more {k} {n} {n'} {ts} {ts'} s a = record {
     long = a .long ∙ s .long;
-    words = λ u v. ⊎-elim (λ (t : eqb u k ≡ true). here u v (eqb-true u k t)) (λ (t : eqb u k ≡ false). away u v t) (split (eqb u k));
+    words =
+        row-more (λ u v. ltb v (length samples) && admits-at u v) (marked ts) (marked ts') k (s .words) (a .words);
     counted = rw (add-one k) (omega (arith, s .counted, a .counted));
   }
-    where
-      here : (u v : ℕ) → u ≡ k → marked ts' u v ≡ (ltb u (k + 1) && (ltb v (length samples) && admits-at u v))
-      here u v q = rw (q, more-here k, a .words k v, s .words k v, le-ltb k k (omega arith), eq-eqb k k refl)
-
-      away : (u v : ℕ) → eqb u k ≡ false → marked ts' u v ≡ (ltb u (k + 1) && (ltb v (length samples) && admits-at u v))
-      away u v t = rw (more-other u k (eqb-false u k t), a .words u v, t, or-false) (s .words u v)
 
   pub filled-end : {n : ℕ} {ts : List ℕ} → Filled (length masks) n ts → Admitted masks values samples n ts
   filled-end s = record {

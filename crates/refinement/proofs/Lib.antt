@@ -1,5 +1,6 @@
 -- The laws by which the inner loops meet their contracts.
 pub mod Linked
+pub mod Calling
 pub mod Kept
 pub mod Waits
 pub mod Incoming

@@ -28,6 +28,11 @@ linkedFrom links w o = anyBelow (length links) (λ u. members w u && members (ge
 abbrev pub linksTo : List ℕ → ℕ → Set
 linksTo links w u = ltb u (length links) && meets (getD links u 0) w
 
+-- for each state the states with a link to it
+pub record Callers (links callers : List ℕ) : Type 0 where
+  pub long : length callers ≡ 32
+  pub called : (o u : ℕ) → o < 32 → members (getD callers o 0) u ≡ (ltb u (length links) && members (getD links u 0) o)
+
 -- ---- support
 
 -- a link to the state o has a carrier among these edges, by the marks of either table
