@@ -11,7 +11,6 @@ use Rattle.session.specs.Trigger.{Trigger, Graph, Marks, states, nodes}
 use Rattle.session.specs.Layout.{image, triggerOf, graphOf, marksOf, inLayout}
 use Rattle.session.proofs.Image.{states-word, nodes-word}
 use Rattle.session.proofs.Decoded.{Inside, marks-take}
-use Rattle.refinement.specs.Tables.{marked}
 use Rattle.listing.specs.Changes.{changes}
 use Rattle.promises.specs.declared.Answer.{Answer}
 use Rattle.promises.specs.Rules.{Kind, edited, graphRules, verdict}
@@ -38,10 +37,10 @@ module _ (k : Kind) (xs : List ℕ) (a b : ℕ) (h : inLayout xs ≡ true) (ok :
   pub called-layout : inLayout xs' ≡ true
   called-layout = left-layout k xs a b h ok (marksOf xs') inside xs' (done .session) (done .admitted)
 
-  pub called-carried : (bs : List ℕ) → marked bs ≡ marksOf xs → (c : List ℤ) (r : Answer) (c' : List ℤ)
-      → Reported (triggerOf xs') (graphOf xs') (marksOf xs') n (changes (triggerOf xs') (graphOf xs') (marked bs) (marksOf xs')) c r c'
+  pub called-carried : (m : Marks) → m ≡ marksOf xs → (c : List ℤ) (r : Answer) (c' : List ℤ)
+      → Reported (triggerOf xs') (graphOf xs') (marksOf xs') n (changes (triggerOf xs') (graphOf xs') m (marksOf xs')) c r c'
       → Carried k (triggerOf xs) (graphOf xs) (marksOf xs) (marksOf xs') a b xs c r xs' c'
-  called-carried bs is c r c' told = record {
+  called-carried m is c r c' told = record {
     trials = n;
     edit = done;
     report = rw (

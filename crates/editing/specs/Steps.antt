@@ -71,6 +71,11 @@ pub record Ceased (xs : List ℕ) (a : ℕ) (ts : List ℕ) : Type 0 where
   pub exact : ((p : ℕ) → In (markedPairs xs) p → (p / states (triggerOf xs) ≡ a → ⊥) → In (backed xs (markedPairs xs)) p)
       → Holds xs (refined (system (pattern (triggerOf xs) (graphOf xs))) none (markedPairs xs)) ts
 
+-- the marks that were, for the report: an edit that does not leave them alone has put them into a table
+pub record Saved (xs xs' bs : List ℕ) (calm : Bool) : Type 0 where
+  pub same : calm ≡ true → marksOf xs' ≡ marksOf xs
+  pub saved : calm ≡ false → marked bs ≡ marksOf xs
+
 -- the kind of an edit, as the code tells it
 abbrev pub kindOf : Bool → Kind
 kindOf true = insertion

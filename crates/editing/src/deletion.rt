@@ -9,7 +9,8 @@ ghost use Rattle.session.specs.Layout.{triggerOf, graphOf, marksOf, inLayout};
 ghost use Rattle.refinement.specs.Tables.{marked};
 ghost use Rattle.promises.specs.Rules.{deletion, graphRules, verdict};
 ghost use Rattle.promises.specs.Promises.{Done, ceased};
-ghost use Rattle.editing.specs.Steps.{steadyAt, Ceased};
+ghost use Rattle.editing.specs.Steps.{steadyAt, Ceased, Saved};
+use super::effect::Effect;
 use edges::held::remove_edge;
 use refinement::refine::edges_from;
 use refinement::refine::refine_few;
@@ -69,19 +70,26 @@ pub fn ceased_pairs(session: &[u32], table: &[u32]) -> u32
     pairs_in(&gone, states, nodes)
 }
 
-// Deletes an edge that breaks no rule, and corrects the marks; how many pairs ceased to stand.
-pub fn delete_edit(session: &mut [u32], start: u32, end: u32) -> u32
-    requires { ⌜ (inLayout (now session) ≡ true) × (verdict (graphRules deletion (graphOf (now session)) start end) ≡ 0) ⌝ }
-    ensures { λ r. ⌜ Done deletion (triggerOf (now (session .entry))) (graphOf (now (session .entry))) (marksOf (now (session .entry))) (marksOf (now (session .exit))) start end r (now (session .entry)) (now (session .exit)) ⌝ }
+// Deletes an edge that breaks no rule, and corrects the marks. Before they change, they are saved.
+pub fn delete_edit(session: &mut [u32], start: u32, end: u32, before: &mut [u32]) -> Effect
+    requires { ⌜ (inLayout (now session) ≡ true) × (verdict (graphRules deletion (graphOf (now session)) start end) ≡ 0) × (length (now before) ≡ maxNodes) ⌝ }
+    ensures { λ r. ⌜ Done deletion (triggerOf (now (session .entry))) (graphOf (now (session .entry))) (marksOf (now (session .entry))) (marksOf (now (session .exit))) start end (r .trials) (now (session .entry)) (now (session .exit)) × Saved (now (session .entry)) (now (session .exit)) (now (before .exit)) (r .calm) ⌝ }
 {
     remove_edge(session, start, end);
     if steady(session, start) {
-        return 0;
+        return Effect {
+            trials: 0,
+            calm: true,
+        };
     }
+    session::fill_words(before, marks_of(session));
     let mut table = [0u32; session::MAX_NODES];
-    session::fill_words(&mut table, marks_of(session));
+    session::fill_words(&mut table, before);
     cease(session, start, &mut table);
     let trials = ceased_pairs(session, &table);
     store_marks(session, &table);
-    trials
+    Effect {
+        trials,
+        calm: false,
+    }
 }

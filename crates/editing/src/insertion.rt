@@ -15,9 +15,12 @@ ghost use Rattle.promises.specs.Standing.{pairsOf, trialSet};
 ghost use Rattle.promises.specs.Rules.{insertion, graphRules, verdict};
 ghost use Rattle.promises.specs.Promises.{Done};
 ghost use Rattle.reports.specs.Marks.{Inside};
-ghost use Rattle.editing.specs.Steps.{Holds, markedPairs, freshPairs, seedsOf};
+ghost use Rattle.editing.specs.Steps.{Holds, Saved, markedPairs, freshPairs, seedsOf};
+use super::effect::Effect;
 use super::outcome::try_out;
 use edges::held::insert_edge;
+use refinement::callers::CALLERS;
+use refinement::callers::index_callers;
 use refinement::links::linking;
 use refinement::refine::refine;
 use refinement::starts::STARTS;
@@ -126,32 +129,43 @@ pub fn begin(session: &[u32], trials: u32, heads: &[u32], nexts: &[u32], table: 
     let edges = edges_of(session);
     let mut firsts = [0u32; STARTS];
     let places = starts_for(trials, edges, &mut firsts);
+    let links = links_of(session);
+    let mut callers = [0u32; CALLERS];
+    index_callers(links, &mut callers);
     refine(
-        links_of(session),
+        links,
         edges,
         nodes,
         marks_of(session),
         table,
         &mut waiting,
+        &callers,
         &firsts[..places],
         heads,
         nexts,
     );
 }
 
-// Inserts an edge that breaks no rule, and corrects the marks; how many pairs were tried.
-pub fn insert_edit(session: &mut [u32], start: u32, end: u32) -> u32
-    requires { ⌜ (inLayout (now session) ≡ true) × (verdict (graphRules insertion (graphOf (now session)) start end) ≡ 0) ⌝ }
-    ensures { λ r. ⌜ Done insertion (triggerOf (now (session .entry))) (graphOf (now (session .entry))) (marksOf (now (session .entry))) (marksOf (now (session .exit))) start end r (now (session .entry)) (now (session .exit)) ⌝ }
+// Inserts an edge that breaks no rule, and corrects the marks. Before they change, they are saved.
+pub fn insert_edit(session: &mut [u32], start: u32, end: u32, before: &mut [u32]) -> Effect
+    requires { ⌜ (inLayout (now session) ≡ true) × (verdict (graphRules insertion (graphOf (now session)) start end) ≡ 0) × (length (now before) ≡ maxNodes) ⌝ }
+    ensures { λ r. ⌜ Done insertion (triggerOf (now (session .entry))) (graphOf (now (session .entry))) (marksOf (now (session .entry))) (marksOf (now (session .exit))) start end (r .trials) (now (session .entry)) (now (session .exit)) × Saved (now (session .entry)) (now (session .exit)) (now (before .exit)) (r .calm) ⌝ }
 {
     insert_edge(session, start, end);
     let seeds = seeds_at(session, start, end);
     if seeds == 0 {
-        return 0;
+        return Effect {
+            trials: 0,
+            calm: true,
+        };
     }
+    session::fill_words(before, marks_of(session));
     let mut table = [0u32; session::MAX_NODES];
     let trials = try_out(session, start, seeds, &mut table);
     put_together(&mut table, marks_of(session));
     store_marks(session, &table);
-    trials
+    Effect {
+        trials,
+        calm: false,
+    }
 }

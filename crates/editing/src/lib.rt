@@ -2,6 +2,7 @@
 pub mod alone;
 pub mod calls;
 pub mod deletion;
+pub mod effect;
 pub mod insertion;
 pub mod outcome;
 pub mod rules;

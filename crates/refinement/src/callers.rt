@@ -5,7 +5,9 @@ ghost use Prim.Native.Nat.{ℕ, _<_, _≤_};
 ghost use lib.Dec.{eqb};
 ghost use lib.ListN.{length, getD};
 ghost use Rattle.bits.specs.Word.{members};
-ghost use Rattle.refinement.specs.Tables.{Callers};
+ghost use Rattle.refinement.specs.Tables.{linksTo, Callers};
+use super::links::linked;
+use super::links::linking;
 
 // A word for each number that a link may name.
 pub const CALLERS: usize = 32;
@@ -33,4 +35,15 @@ pub fn index_callers(links: &[u32], callers: &mut [u32])
         call_for(callers, links[u], u as u32);
         u += 1;
     }
+}
+
+// The states with a link to a state of the word: by the table, or by all links where there is none.
+pub fn calling(links: &[u32], callers: &[u32], word: u32) -> u32
+    requires { ⌜ (length (now links) ≤ 32) × ((length (now callers) ≡ 0 → ⊥) → Callers (now links) (now callers)) ⌝ }
+    ensures { λ r. ⌜ members r ≡ linksTo (now (links .entry)) word ⌝ }
+{
+    if callers.len() == 0 {
+        return linking(links, word);
+    }
+    linked(callers, word)
 }

@@ -7,9 +7,11 @@ ghost use Rattle.bits.specs.Word.{members};
 ghost use Rattle.simulation.specs.Ordered.{ascends};
 ghost use Rattle.session.specs.Limits.{maxEdges, maxNodes};
 ghost use Rattle.session.specs.Layout.{below};
-ghost use Rattle.refinement.specs.Tables.{marked, carried, keptOf, unmetOf, edgesFrom, Started, Indexed, Sound, Turned, Refining, Settled};
+ghost use Rattle.refinement.specs.Tables.{marked, carried, keptOf, unmetOf, edgesFrom, Callers, Started, Indexed, Sound, Turned, Refining, Settled};
+use super::callers::CALLERS;
+use super::callers::calling;
+use super::callers::index_callers;
 use super::links::linked;
-use super::links::linking;
 use super::links::unlinked;
 use super::starts::STARTS;
 use super::starts::index_starts;
@@ -113,13 +115,14 @@ pub fn turn(
     settled: &[u32],
     tentative: &mut [u32],
     waiting: &mut [u32],
+    callers: &[u32],
     firsts: &[u32],
     heads: &[u32],
     nexts: &[u32],
     v: usize,
 )
     requires { ⌜ (length (now settled) ≡ maxNodes) × (length (now tentative) ≡ maxNodes) × (length (now waiting) ≡ 16) × (v < maxNodes) ⌝ }
-    requires { ⌜ Sound maxNodes (now links) (now edges) × ((length (now firsts) ≡ 0 → ⊥) → Started (now edges) (now firsts)) × ((length (now heads) ≡ 0 → ⊥) → Indexed (now edges) (now heads) (now nexts)) ⌝ }
+    requires { ⌜ Sound maxNodes (now links) (now edges) × ((length (now firsts) ≡ 0 → ⊥) → Started (now edges) (now firsts)) × ((length (now heads) ≡ 0 → ⊥) → Indexed (now edges) (now heads) (now nexts)) × ((length (now callers) ≡ 0 → ⊥) → Callers (now links) (now callers)) ⌝ }
     ensures { λ r. ⌜ Turned (now (links .entry)) (now (edges .entry)) (now (settled .entry)) (now (tentative .entry)) (now (waiting .entry)) v (now (tentative .exit)) (now (waiting .exit)) ⌝ }
 {
     take_out(waiting, v);
@@ -127,7 +130,7 @@ pub fn turn(
     let left = left_at(links, edges, firsts, settled, tentative, v);
     if left != word {
         tentative[v] = left;
-        let shaken = linking(links, bits::difference(word, left));
+        let shaken = calling(links, callers, bits::difference(word, left));
         call_in(waiting, edges, heads, nexts, v, tentative, shaken);
     }
 }
@@ -144,12 +147,13 @@ pub fn refine(
     settled: &[u32],
     tentative: &mut [u32],
     waiting: &mut [u32],
+    callers: &[u32],
     firsts: &[u32],
     heads: &[u32],
     nexts: &[u32],
 ) -> usize
     requires { ⌜ (length (now settled) ≡ maxNodes) × (length (now tentative) ≡ maxNodes) × (length (now waiting) ≡ 16) ⌝ }
-    requires { ⌜ Sound nodes (now links) (now edges) × ((length (now firsts) ≡ 0 → ⊥) → Started (now edges) (now firsts)) × ((length (now heads) ≡ 0 → ⊥) → Indexed (now edges) (now heads) (now nexts)) ⌝ }
+    requires { ⌜ Sound nodes (now links) (now edges) × ((length (now firsts) ≡ 0 → ⊥) → Started (now edges) (now firsts)) × ((length (now heads) ≡ 0 → ⊥) → Indexed (now edges) (now heads) (now nexts)) × ((length (now callers) ≡ 0 → ⊥) → Callers (now links) (now callers)) ⌝ }
     ensures { λ r. ⌜ Refining nodes (now (links .entry)) (now (edges .entry)) (now (settled .entry)) (now (tentative .entry)) (now (waiting .entry)) (now (tentative .exit)) (now (waiting .exit)) r × ((length (now (heads .entry)) ≡ 0 → ⊥) → nodes ≤ r) ⌝ }
 {
     let bare = heads.len() == 0;
@@ -168,6 +172,7 @@ pub fn refine(
             settled,
             tentative,
             waiting,
+            callers,
             firsts,
             heads,
             nexts,
@@ -178,7 +183,7 @@ pub fn refine(
     v
 }
 
-// The same to the end, with both indexes, which are built here.
+// The same to the end, with all indexes, which are built here.
 pub fn refine_indexed(
     links: &[u32],
     edges: &[u32],
@@ -196,6 +201,8 @@ pub fn refine_indexed(
     let mut heads = [0u32; session::MAX_NODES];
     let mut nexts = [0u32; session::MAX_EDGES];
     index(edges, &mut heads, &mut nexts);
+    let mut callers = [0u32; CALLERS];
+    index_callers(links, &mut callers);
     refine(
         links,
         edges,
@@ -203,6 +210,7 @@ pub fn refine_indexed(
         settled,
         tentative,
         waiting,
+        &callers,
         &firsts,
         &heads,
         &nexts,
@@ -230,6 +238,7 @@ pub fn refine_few(
         settled,
         tentative,
         waiting,
+        none,
         none,
         none,
         none,

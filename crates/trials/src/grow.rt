@@ -4,9 +4,11 @@ ghost use mathlib.Core.Bool.{true};
 ghost use Prim.Native.Nat.{ℕ, _<_, _≤_};
 ghost use lib.ListN.{length};
 ghost use Rattle.session.specs.Limits.{maxNodes};
-ghost use Rattle.refinement.specs.Tables.{marked, waits, Indexed, Sound};
+ghost use Rattle.refinement.specs.Tables.{marked, waits, Callers, Indexed, Sound};
 ghost use Rattle.trials.specs.Growth.{Tried, Spread, Grown};
-use refinement::links::linking;
+use refinement::callers::CALLERS;
+use refinement::callers::calling;
+use refinement::callers::index_callers;
 use refinement::worklist::lowest_in;
 use refinement::worklist::put_in;
 use refinement::worklist::take_out;
@@ -31,16 +33,17 @@ pub fn spread(
     fresh: &[u32],
     trials: &mut [u32],
     waiting: &mut [u32],
+    callers: &[u32],
     heads: &[u32],
     nexts: &[u32],
     v: usize,
 )
     requires { ⌜ (length (now fresh) ≡ maxNodes) × (length (now trials) ≡ maxNodes) × (length (now waiting) ≡ 16) × (v < maxNodes) ⌝ }
-    requires { ⌜ Sound maxNodes (now links) (now edges) × Indexed (now edges) (now heads) (now nexts) ⌝ }
+    requires { ⌜ Sound maxNodes (now links) (now edges) × Indexed (now edges) (now heads) (now nexts) × Callers (now links) (now callers) ⌝ }
     ensures { λ r. ⌜ Spread (now (links .entry)) (now (edges .entry)) (now (fresh .entry)) (now (trials .entry)) (now (waiting .entry)) v (now (trials .exit)) (now (waiting .exit)) ⌝ }
 {
     take_out(waiting, v);
-    let able = linking(links, trials[v]);
+    let able = calling(links, callers, trials[v]);
     let mut next = heads[v] as usize;
     while next != 0 {
         let k = next - 1;
@@ -67,9 +70,21 @@ pub fn grow(
     requires { ⌜ ((u v : ℕ) → marked (now trials) u v ≡ true → (marked (now fresh) u v ≡ true) × (waits (now waiting) v ≡ true)) ⌝ }
     ensures { λ r. ⌜ Grown nodes (now (links .entry)) (now (edges .entry)) (now (fresh .entry)) (now (trials .entry)) (now (trials .exit)) ⌝ }
 {
+    let mut callers = [0u32; CALLERS];
+    index_callers(links, &mut callers);
     let mut v = lowest_in(waiting);
     while v < nodes {
-        spread(links, edges, fresh, trials, waiting, heads, nexts, v);
+        spread(
+            links,
+            edges,
+            fresh,
+            trials,
+            waiting,
+            &callers,
+            heads,
+            nexts,
+            v,
+        );
         v = lowest_in(waiting);
     }
 }

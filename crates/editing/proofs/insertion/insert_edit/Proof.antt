@@ -13,10 +13,11 @@ use Rattle.session.specs.Layout.{graphOf, marksOf, inLayout}
 use Rattle.session.proofs.Decoded.{layout-limits}
 use Rattle.refinement.specs.Tables.{marked}
 use Rattle.refinement.proofs.Turns.{zeros}
+use Rattle.promises.specs.Rules.{insertion}
 use Rattle.promises.proofs.Edits.{insertion-passed}
 use Rattle.reports.proofs.Held.{marks-long, held-marks}
 use Rattle.editing.specs.Steps.{Begun}
-use Rattle.editing.proofs.Moved.{left-length}
+use Rattle.editing.proofs.Moved.{left-length, moved-saved, saved-calm, saved-before}
 use Rattle.editing.proofs.Inserted.{in-layout, start-near, end-near, inserted-same, stored-inside, inserted-stored}
 use borrow.Author.Needs.{needs}
 use Rattle.editing.proofs.insertion.insert_edit.Statement.{statement}
@@ -24,7 +25,7 @@ use Rattle.editing.proofs.insertion.insert_edit.Tie as tie
 
 -- the session with the edge in it
 abbrev entry : tie.After-insert-edge → tie.Start
-entry i = i .before .before .before
+entry i = i .before .before .before .before
 
 abbrev xs₁ : tie.After-insert-edge → List ℕ
 xs₁ i = i .insert-edge .last .0
@@ -44,7 +45,7 @@ abbrev edge-in : tie.After-seeds-at → tie.After-insert-edge
 edge-in d = d .before .before .before .before
 
 abbrev seeded : tie.After-try-out → tie.After-seeds-at
-seeded t = t .before .before .before .before
+seeded t = t .before .before .before .before .before .before .before .before .before .before
 
 begun : (t : tie.After-try-out) → let i = edge-in (seeded t) in Begun (xs₁ i) (entry i .args .start) (entry i .args .end) (t .try-out .last .1 .1 .1 .0) (t .try-out .result)
 begun t = let d = seeded t in t .try-out .ensures (entry (edge-in d) .args .end) (d .seeds-at .ensures)
@@ -58,11 +59,11 @@ both : (p : tie.After-put-together) (u v : ℕ)
 both p u v =
     let i = edge-in (seeded (tried p)) in
     p .put-together .ensures .1 u v
-    ∙ ap (λ (m : Marks). marked (tried p .try-out .last .1 .1 .1 .0) u v || m u v) (ap marked (p .before .marks-of .ensures) ∙ held-marks (xs₁ i) (layout i))
+    ∙ ap (λ (m : Marks). marked (tried p .try-out .last .1 .1 .1 .0) u v || m u v) (ap marked (p .before .marks-of2 .ensures) ∙ held-marks (xs₁ i) (layout i))
 
 insert-edge-requires : tie.Need-insert-edge-requires
 insert-edge-requires c κs =
-    let s = c .before .before in
+    let s = c .before .before .before in
     let w = insertion-passed (graphOf (s .args .session .now)) (s .args .start) (s .args .end) (s .pre .1) in
     (s .pre .0, ((w .0, w .1), w .3))
 
@@ -82,30 +83,39 @@ returns : tie.Need-returns
 returns c =
     let i = c .before .before .before .before .before in
     let s = entry i in
-    inserted-same (s .args .session .now) (s .args .start) (s .args .end) (s .pre .0) (s .pre .1) (xs₁ i) (i .insert-edge .ensures)
-    (λ u.
-    sym (ap (λ (X : Set). X u) (c .before .seeds-at .ensures)) ∙ ap (λ (w : ℕ). members w u) (c .if1 .taken) ∙ zero-members u)
+    let a = s .args in (
+      inserted-same (a .session .now) (a .start) (a .end) (s .pre .0) (s .pre .1) (xs₁ i) (i .insert-edge .ensures)
+          (λ u.
+          sym (ap (λ (X : Set). X u) (c .before .seeds-at .ensures)) ∙ ap (λ (w : ℕ). members w u) (c .if1 .taken) ∙ zero-members u),
+      saved-calm insertion (a .session .now) (a .start) (a .end) (s .pre .0) (s .pre .1) (xs₁ i) (i .insert-edge .ensures) _,
+    )
+
+marks-of-requires : tie.Need-marks-of-requires
+marks-of-requires c κs = layout (edge-in (c .before .before .before))
+
+fill-words-requires : tie.Need-fill-words-requires
+fill-words-requires c κs = search needs
 
 slice-aggregate-try-out : tie.Need-slice-aggregate-try-out
 slice-aggregate-try-out c = search needs
 
 try-out-requires : tie.Need-try-out-requires
 try-out-requires c κs =
-    let d = c .before .before .before in
+    let d = c .before .before .before .before .before .before .before .before .before in
     let i = edge-in d in
     ((layout i, near i, refl, zeros 512), (entry i .args .end, d .seeds-at .ensures))
 
 slice-aggregate-put-together : tie.Need-slice-aggregate-put-together
 slice-aggregate-put-together c = search needs
 
-marks-of-requires : tie.Need-marks-of-requires
-marks-of-requires c κs = layout (edge-in (seeded (c .before .before .before)))
+marks-of-requires-2 : tie.Need-marks-of-requires-2
+marks-of-requires-2 c κs = layout (edge-in (seeded (c .before .before .before)))
 
 put-together-requires : tie.Need-put-together-requires
 put-together-requires c κs =
     let t = c .before .before .before .before in
     let i = edge-in (seeded t) in
-    ap length (c .marks-of .ensures) ∙ marks-long (xs₁ i) (layout i) ∙ sym (begun t .left .long)
+    ap length (c .marks-of2 .ensures) ∙ marks-long (xs₁ i) (layout i) ∙ sym (begun t .left .long)
 
 slice-aggregate-store-marks : tie.Need-slice-aggregate-store-marks
 slice-aggregate-store-marks c = search needs
@@ -130,6 +140,9 @@ same-length-2 c =
     left-length _ _ _ (xs₁ i) (m .store-marks .last .0) (layout-limits (xs₁ i) (layout i) .long) (m .store-marks .ensures)
     ∙ left-length _ _ _ (s .args .session .now) (xs₁ i) (layout-limits (s .args .session .now) (s .pre .0) .long) (i .insert-edge .ensures)
 
+same-length-3 : tie.Need-same-length-3
+same-length-3 c = search needs
+
 returns-2 : tie.Need-returns-2
 returns-2 c =
     let m = c .before .before in
@@ -137,8 +150,13 @@ returns-2 c =
     let t = tried p in
     let i = edge-in (seeded t) in
     let s = entry i in
-    inserted-stored (s .args .session .now) (s .args .start) (s .args .end) (s .pre .0) (s .pre .1) (xs₁ i) (i .insert-edge .ensures)
-    (begun t .trials) (t .try-out .last .1 .1 .1 .0) (p .put-together .last .0) (begun t .tried) (begun t .left) (both p) (t .try-out .result) (begun t .counted) _ (m .store-marks .ensures)
+    let a = s .args in
+    let saved = t .before .before .before .before .before in (
+      inserted-stored (a .session .now) (a .start) (a .end) (s .pre .0) (s .pre .1) (xs₁ i) (i .insert-edge .ensures)
+          (begun t .trials) (t .try-out .last .1 .1 .1 .0) (p .put-together .last .0) (begun t .tried) (begun t .left) (both p) (t .try-out .result) (begun t .counted) _ (m .store-marks .ensures),
+      saved-before insertion (a .session .now) (a .start) (a .end) (s .pre .0) (s .pre .1) (xs₁ i) (i .insert-edge .ensures) _ _
+          (moved-saved insertion (a .session .now) (a .start) (a .end) (s .pre .0) (s .pre .1) (xs₁ i) (i .insert-edge .ensures) _ _ _ (s .pre .2) (saved .before .marks-of .ensures) (saved .fill-words .ensures)),
+    )
 
 pub insert-edit-spec : {M : Type 1} → statement M
 insert-edit-spec =
@@ -148,12 +166,15 @@ insert-edit-spec =
     seeds-at-requires
     same-length
     returns
+    marks-of-requires
+    fill-words-requires
     slice-aggregate-try-out
     try-out-requires
     slice-aggregate-put-together
-    marks-of-requires
+    marks-of-requires-2
     put-together-requires
     slice-aggregate-store-marks
     store-marks-requires
     same-length-2
+    same-length-3
     returns-2)

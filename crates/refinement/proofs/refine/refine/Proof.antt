@@ -13,11 +13,11 @@ use Rattle.refinement.proofs.refine.refine.Statement.{statement}
 use Rattle.refinement.proofs.refine.refine.Tie as tie
 
 abbrev Inv-loop : tie.InvT-loop
-Inv-loop links edges nodes settled tentative₀ waiting₀ firsts heads nexts bare left₀ v₀ tentative waiting left v =
+Inv-loop links edges nodes settled tentative₀ waiting₀ callers firsts heads nexts bare left₀ v₀ tentative waiting left v =
     Refining nodes links edges settled tentative₀ waiting₀ tentative waiting v
 
 abbrev μ-loop : tie.MeasureT-loop
-μ-loop links edges nodes settled tentative₀ waiting₀ firsts heads nexts bare left₀ v₀ tentative waiting left v =
+μ-loop links edges nodes settled tentative₀ waiting₀ callers firsts heads nexts bare left₀ v₀ tentative waiting left v =
     513 * count (nodes * length links) (tabled nodes links edges tentative) + count 512 (waits waiting)
 
 -- the function's entry, from the loop's head
@@ -25,7 +25,7 @@ abbrev Head : Type 0
 Head = tie.At-loop Inv-loop μ-loop
 
 abbrev start : Head → tie.Start Inv-loop μ-loop
-start h = h .before .before .before .before .before .before .before .before .before .before .before
+start h = h .before .before .before .before .before .before .before .before .before .before .before .before
 
 sound : (h : Head) → Sound (start h .args .nodes) (start h .args .links .now) (start h .args .edges .now)
 sound h = start h .pre .1 .0
@@ -35,7 +35,7 @@ lowest-in-requires c κs = search needs
 
 loop-holds : tie.Need-loop-holds Inv-loop μ-loop
 loop-holds c =
-    let s = c .before .before .before .before .before .before .before .before .before .before in
+    let s = c .before .before .before .before .before .before .before .before .before .before .before in
     refining-start _ _ _ (s .pre .1 .0) _ _ _ _ (search needs) (search needs) (c .lowest-in .ensures)
 
 same-length : tie.Need-same-length Inv-loop μ-loop
@@ -56,7 +56,7 @@ turn-requires c κs =
     let h = l .before in
     let i = h .loop .inv in (
       (start h .pre .0 .0, i .long, i .waits-long, omega (arith, l .loop-test .taken, sound h .few-nodes)),
-      (sound-wider _ _ _ (sound h), start h .pre .1 .1, start h .pre .1 .2),
+      (sound-wider _ _ _ (sound h), start h .pre .1 .1, start h .pre .1 .2, start h .pre .1 .3),
     )
 
 lowest-in-requires-2 : tie.Need-lowest-in-requires-2 Inv-loop μ-loop

@@ -12,7 +12,7 @@ slice-aggregate-none c = search needs
 refine-requires : tie.Need-refine-requires
 refine-requires c κs =
     let s = c .before .before .before .before .before .before .before .before in
-    (s .pre .0, (s .pre .1 .0, λ some. absurd (some refl), λ some. absurd (some refl)))
+    (s .pre .0, (s .pre .1 .0, λ some. absurd (some refl), λ some. absurd (some refl), λ some. absurd (some refl)))
 
 refine-indexed-requires : tie.Need-refine-indexed-requires
 refine-indexed-requires c κs =

@@ -1,4 +1,4 @@
--- Both indexes are built in tables that are zero; with them the refinement goes to its end.
+-- All indexes are built in tables that are zero; with them the refinement goes to its end.
 use native.Mathlib.Omega.{arith}
 use mathlib.Core.Path.{refl}
 use Rattle.refinement.proofs.Turns.{zeros, sound-below}
@@ -25,6 +25,12 @@ slice-aggregate-index-2 c = search needs
 index-requires : tie.Need-index-requires
 index-requires c κs = let s = c .before .before .before .before .before .before .before .before .before .before in ((omega (arith, s .pre .1 .0 .few-edges), refl, refl), zeros 512)
 
+slice-aggregate-index-callers : tie.Need-slice-aggregate-index-callers
+slice-aggregate-index-callers c = search needs
+
+index-callers-requires : tie.Need-index-callers-requires
+index-callers-requires c κs = let s = c .before .before .before .before .before .before .before .before .before .before .before .before .before .before in (omega (arith, s .pre .1 .0 .few-states), refl, zeros 32)
+
 slice-aggregate-refine : tie.Need-slice-aggregate-refine
 slice-aggregate-refine c = search needs
 
@@ -33,6 +39,9 @@ slice-aggregate-refine-2 c = search needs
 
 slice-aggregate-refine-3 : tie.Need-slice-aggregate-refine-3
 slice-aggregate-refine-3 c = search needs
+
+slice-aggregate-refine-4 : tie.Need-slice-aggregate-refine-4
+slice-aggregate-refine-4 c = search needs
 
 refine-requires : tie.Need-refine-requires
 refine-requires c κs = search needs
@@ -45,9 +54,9 @@ same-length-2 c = search needs
 
 returns : tie.Need-returns
 returns c =
-    let s = c .before .before .before .before .before .before .before .before .before .before .before .before .before .before .before .before .before .before .before .before .before .before .before in
+    let s = c .before .before .before .before .before .before .before .before .before .before .before .before .before .before .before .before .before .before .before .before .before .before .before .before .before .before .before in
     let r = c .before .before .before .before .refine in
-    refining-end _ _ _ (s .pre .1 .0) _ _ _ _ _ _ (r .ensures .0) (r .ensures .1 (λ none. omega (arith, none, c .before .before .before .before .before .before .before .before .before .before .before .before .index .ensures .heads-long))) (s .pre .1 .1) (s .pre .0 .1)
+    refining-end _ _ _ (s .pre .1 .0) _ _ _ _ _ _ (r .ensures .0) (r .ensures .1 (λ none. omega (arith, none, c .before .before .before .before .before .before .before .before .before .before .before .before .before .before .before .before .index .ensures .heads-long))) (s .pre .1 .1) (s .pre .0 .1)
 
 pub refine-indexed-spec : {M : Type 1} → statement M
 refine-indexed-spec =
@@ -58,9 +67,12 @@ refine-indexed-spec =
     slice-aggregate-index
     slice-aggregate-index-2
     index-requires
+    slice-aggregate-index-callers
+    index-callers-requires
     slice-aggregate-refine
     slice-aggregate-refine-2
     slice-aggregate-refine-3
+    slice-aggregate-refine-4
     refine-requires
     same-length
     same-length-2

@@ -9,7 +9,7 @@ use Rattle.refinement.proofs.refine.turn.Tie as tie
 
 -- the places of the function's entry, from where the states that are left are known
 abbrev entry : tie.After-left-at → tie.Start
-entry k = k .before .before .before .before .before .before .before .before .before .before .before .before .before .before .before
+entry k = k .before .before .before .before .before .before .before .before .before .before .before .before .before .before .before .before
 
 -- the node was taken out
 abbrev took : tie.After-left-at → tie.After-take-out
@@ -25,7 +25,7 @@ slice-read-word : tie.Need-slice-read-word
 slice-read-word c = search needs
 
 left-at-requires : tie.Need-left-at-requires
-left-at-requires c κs = let s = c .before .before .before .before .before .before .before .before .before .before .before .before .before .before in ((s .pre .0 .0, s .pre .0 .1, s .pre .0 .3, omega (arith, s .pre .1 .0 .few-states)), (s .pre .1 .0 .ascend, omega (arith, s .pre .1 .0 .few-edges), s .pre .1 .1))
+left-at-requires c κs = let s = c .before .before .before .before .before .before .before .before .before .before .before .before .before .before .before in ((s .pre .0 .0, s .pre .0 .1, s .pre .0 .3, omega (arith, s .pre .1 .0 .few-states)), (s .pre .1 .0 .ascend, omega (arith, s .pre .1 .0 .few-edges), s .pre .1 .1))
 
 mul-tentative : tie.Need-mul-tentative
 mul-tentative c = search needs
@@ -36,8 +36,8 @@ slice-write-tentative c = search needs
 difference-requires : tie.Need-difference-requires
 difference-requires c κs = search needs
 
-linking-requires : tie.Need-linking-requires
-linking-requires c κs = let s = c .before .before .before .before .before .before .before .before .before .before .before .before .before .before .before .before .before in omega (arith, s .pre .1 .0 .few-states)
+calling-requires : tie.Need-calling-requires
+calling-requires c κs = let s = c .before .before .before .before .before .before .before .before .before .before .before .before .before .before .before .before .before .before in (omega (arith, s .pre .1 .0 .few-states), s .pre .1 .3)
 
 call-in-requires : tie.Need-call-in-requires
 call-in-requires c κs =
@@ -63,7 +63,7 @@ returns c =
     let called = c .before .before .call-in in
     turned-cleared (a .links .now) (a .edges .now) (a .settled .now) (a .tentative .now) (a .waiting .now) (a .v) (omega (arith, s .pre .0))
     (t .last .0) (t .ensures .0 ∙ sym (s .pre .0 .2)) (t .ensures .1) (k .left-at .result) (k .left-at .ensures)
-    (called .last .0) (c .before .before .before .before .before .before .difference .result) (c .before .before .before .before .before .linking .result) (called .ensures .0 ∙ sym (s .pre .0 .2)) (c .before .before .before .before .before .before .difference .ensures) (c .before .before .before .before .before .linking .ensures) (called .ensures .1)
+    (called .last .0) (c .before .before .before .before .before .before .difference .result) (c .before .before .before .before .before .calling .result) (called .ensures .0 ∙ sym (s .pre .0 .2)) (c .before .before .before .before .before .before .difference .ensures) (c .before .before .before .before .before .calling .ensures) (called .ensures .1)
 
 same-length-3 : tie.Need-same-length-3
 same-length-3 c = search needs
@@ -92,7 +92,7 @@ turn-spec =
     mul-tentative
     slice-write-tentative
     difference-requires
-    linking-requires
+    calling-requires
     call-in-requires
     same-length
     same-length-2

@@ -8,26 +8,26 @@ use Rattle.trials.proofs.grow.spread.Statement.{statement}
 use Rattle.trials.proofs.grow.spread.Tie as tie
 
 abbrev Inv-loop : tie.InvT-loop
-Inv-loop links edges fresh trials₀ waiting₀ heads nexts v able next₀ trials waiting next = Spreading edges fresh v able trials₀ waiting₀ trials waiting next
+Inv-loop links edges fresh trials₀ waiting₀ callers heads nexts v able next₀ trials waiting next = Spreading edges fresh v able trials₀ waiting₀ trials waiting next
 
 abbrev μ-loop : tie.MeasureT-loop
-μ-loop links edges fresh trials₀ waiting₀ heads nexts v able next₀ trials waiting next = next
+μ-loop links edges fresh trials₀ waiting₀ callers heads nexts v able next₀ trials waiting next = next
 
 -- the function's entry, from the loop's head
 abbrev startOf : tie.At-loop Inv-loop μ-loop → tie.Start Inv-loop μ-loop
-startOf h = h .before .before .before .before .before .before .before .before .before .before .before .before .before .before .before
+startOf h = h .before .before .before .before .before .before .before .before .before .before .before .before .before .before .before .before
 
 take-out-requires : tie.Need-take-out-requires Inv-loop μ-loop
 take-out-requires c κs = search needs
 
-mul-linking : tie.Need-mul-linking Inv-loop μ-loop
-mul-linking c = search needs
+mul-calling : tie.Need-mul-calling Inv-loop μ-loop
+mul-calling c = search needs
 
-slice-read-linking : tie.Need-slice-read-linking Inv-loop μ-loop
-slice-read-linking c = search needs
+slice-read-calling : tie.Need-slice-read-calling Inv-loop μ-loop
+slice-read-calling c = search needs
 
-linking-requires : tie.Need-linking-requires Inv-loop μ-loop
-linking-requires c κs = search needs
+calling-requires : tie.Need-calling-requires Inv-loop μ-loop
+calling-requires c κs = let s = c .before .before .before .before .before .before .before .before .before .before .before .before .before in (omega (arith, s .pre .1 .0 .few-states), λ some. s .pre .1 .2)
 
 mul-next : tie.Need-mul-next Inv-loop μ-loop
 mul-next c = search needs
@@ -36,13 +36,13 @@ shared-slice-read-next : tie.Need-shared-slice-read-next Inv-loop μ-loop
 shared-slice-read-next c = search needs
 
 cast-next : tie.Need-cast-next Inv-loop μ-loop
-cast-next c = omega (arith, c .shared-slice-known6 .given (c .before .before .before .before .before .before .before .before .before .before .before .before .before .before .args .v))
+cast-next c = omega (arith, c .shared-slice-known7 .given (c .before .before .before .before .before .before .before .before .before .before .before .before .before .before .before .args .v))
 
 loop-holds : tie.Need-loop-holds Inv-loop μ-loop
 loop-holds c =
-    let s = c .before .before .before .before .before .before .before .before .before .before .before .before .before .before in
+    let s = c .before .before .before .before .before .before .before .before .before .before .before .before .before .before .before in
     let out = c .before .before .before .before .before .take-out in
-    spreading-start (s .pre .1 .1) (s .args .fresh .now) (s .args .v) (c .before .linking .result) (s .args .trials .now) (out .last .0)
+    spreading-start (s .pre .1 .1) (s .args .fresh .now) (s .args .v) (c .before .calling .result) (s .args .trials .now) (out .last .0)
     (search needs) (search needs) (out .ensures .0)
 
 sub-k : tie.Need-sub-k Inv-loop μ-loop
@@ -55,7 +55,7 @@ shared-slice-read-start : tie.Need-shared-slice-read-start Inv-loop μ-loop
 shared-slice-read-start c = search needs
 
 cast-start : tie.Need-cast-start Inv-loop μ-loop
-cast-start c = omega (arith, c .shared-slice-known7 .given (c .before .before .loop .next - 1))
+cast-start c = omega (arith, c .shared-slice-known8 .given (c .before .before .loop .next - 1))
 
 mul-try-at : tie.Need-mul-try-at Inv-loop μ-loop
 mul-try-at c =
@@ -79,7 +79,7 @@ shared-slice-read-next-2 : tie.Need-shared-slice-read-next-2 Inv-loop μ-loop
 shared-slice-read-next-2 c = search needs
 
 cast-next-2 : tie.Need-cast-next-2 Inv-loop μ-loop
-cast-next-2 c = omega (arith, c .shared-slice-known9 .given (c .before .before .before .before .before .before .before .before .before .before .before .loop .next - 1))
+cast-next-2 c = omega (arith, c .shared-slice-known10 .given (c .before .before .before .before .before .before .before .before .before .before .before .loop .next - 1))
 
 loop-less : tie.Need-loop-less Inv-loop μ-loop
 loop-less c =
@@ -102,7 +102,7 @@ returns c =
     let h = c .before in
     let s = startOf h in
     spreading-done (s .args .links .now) (rw (c .loop-test .left) at (h .loop .inv)) (s .pre .0 .1) (s .pre .0 .2)
-    (h .before .before .linking .ensures) (h .before .before .before .before .before .before .take-out .ensures .1)
+    (h .before .before .calling .ensures) (h .before .before .before .before .before .before .take-out .ensures .1)
 
 pub spread-spec : {M : Type 1} → statement M
 spread-spec =
@@ -111,9 +111,9 @@ spread-spec =
     Inv-loop
     μ-loop
     take-out-requires
-    mul-linking
-    slice-read-linking
-    linking-requires
+    mul-calling
+    slice-read-calling
+    calling-requires
     mul-next
     shared-slice-read-next
     cast-next
