@@ -10,7 +10,7 @@ ghost use Rattle.session.specs.Limits.{maxNodes, maxStates, wordBits};
 ghost use Rattle.session.specs.Trigger.{agrees};
 ghost use Rattle.session.specs.Layout.{below};
 ghost use Rattle.refinement.specs.Tables.{marked, waits};
-use refinement::worklist::put_in;
+use refinement::worklist::WAITING_WORDS;
 
 // The states that admit a sample.
 pub fn admitted_at(masks: &[u32], values: &[u32], sample: u32) -> u32
@@ -66,16 +66,30 @@ pub fn pairs_in(table: &[u32], states: u32, nodes: usize) -> u32
     count
 }
 
-// The nodes at which the table has a pair are put in.
+// The nodes of 32 that have a pair, as a word: node k of the part is bit k. Each word is picked without a branch.
+pub fn held_among(part: &[u32]) -> u32
+    requires { ⌜ length (now part) ≡ 32 ⌝ }
+    ensures { λ r. ⌜ ((k : ℕ) → members r k ≡ not (eqb (getD (now (part .entry)) k 0) 0)) ⌝ }
+{
+    let mut all = 0;
+    let mut k = 0;
+    while k < part.len() {
+        all = all | session::picked(bits::only(k as u32), part[k] != 0);
+        k += 1;
+    }
+    all
+}
+
+// The nodes at which the table has a pair are put in, a word of 32 nodes at a time.
 pub fn call_all(table: &[u32], waiting: &mut [u32])
     requires { ⌜ (length (now table) ≡ maxNodes) × (length (now waiting) ≡ 16) ⌝ }
     ensures { λ r. ⌜ (length (now (waiting .exit)) ≡ 16) × ((v : ℕ) → waits (now (waiting .exit)) v ≡ (waits (now (waiting .entry)) v || not (eqb (getD (now (table .entry)) v 0) 0))) ⌝ }
 {
-    let mut v = 0;
-    while v < session::MAX_NODES {
-        if table[v] != 0 {
-            put_in(waiting, v);
-        }
-        v += 1;
+    let mut i = 0;
+    while i < WAITING_WORDS {
+        let at = i * 32;
+        let end = at + 32;
+        waiting[i] = bits::united(waiting[i], held_among(&table[at..end]));
+        i += 1;
     }
 }

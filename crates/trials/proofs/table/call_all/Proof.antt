@@ -1,63 +1,74 @@
--- `trials::table::call_all` meets its contract: the nodes below v that have a pair were put in.
-use Prim.Native.Nat.{ℕ, _-_, _≤_}
+-- `trials::table::call_all` meets its contract: the words below i gained the nodes of their parts.
+use Prim.Native.Nat.{ℕ, _+_, _-_, _*_, _≤_}
 use borrow.Author.Needs.{needs}
 use native.Mathlib.Omega.{arith}
 use mathlib.Core.Path.{_≡_, ap, _∙_}
-use mathlib.Core.Logic.{⊎-elim}
-use mathlib.Core.Bool.{not}
-use lib.ListN.{length, getD}
-use borrow.Author.Tests.{eq-eqb, ne-eqb}
-use Rattle.simulation.specs.Sets.{Set}
+use lib.ListN.{length, length-set}
 use Rattle.refinement.specs.Tables.{waits}
-use Rattle.refinement.proofs.Linked.{gained, gained-none, gained-more, gained-pass, gained-all}
-use Rattle.trials.proofs.Tabling.{occupied, none-past}
+use Rattle.trials.proofs.Tabling.{called, called-none, called-step, called-all}
 use Rattle.trials.proofs.table.call_all.Statement.{statement}
 use Rattle.trials.proofs.table.call_all.Tie as tie
 
 abbrev Inv-loop : tie.InvT-loop
-Inv-loop table waiting₀ v₀ waiting v = (v ≤ 512) × (length waiting ≡ 16) × (waits waiting ≡ gained (waits waiting₀) (occupied table) v)
+Inv-loop table waiting₀ i₀ waiting i = (i ≤ 16) × (length waiting ≡ 16) × ((v : ℕ) → waits waiting v ≡ called waiting₀ table i v)
 
 abbrev μ-loop : tie.MeasureT-loop
-μ-loop table waiting₀ v₀ waiting v = 512 - v
+μ-loop table waiting₀ i₀ waiting i = 16 - i
 
 loop-holds : tie.Need-loop-holds Inv-loop μ-loop
-loop-holds c = let s = c .before .before in (search needs, s .pre .1, gained-none (waits (s .args .waiting .now)) (occupied (s .args .table .now)))
+loop-holds c = let s = c .before .before in (search needs, s .pre .1, called-none (s .args .waiting .now) (s .args .table .now))
 
-mul-if1 : tie.Need-mul-if1 Inv-loop μ-loop
-mul-if1 c = search needs
+mul-at : tie.Need-mul-at Inv-loop μ-loop
+mul-at c = search needs
 
-shared-slice-read-if1 : tie.Need-shared-slice-read-if1 Inv-loop μ-loop
-shared-slice-read-if1 c = search needs
+add-end : tie.Need-add-end Inv-loop μ-loop
+add-end c = search needs
 
-put-in-requires : tie.Need-put-in-requires Inv-loop μ-loop
-put-in-requires c κs = search needs
+mul-united : tie.Need-mul-united Inv-loop μ-loop
+mul-united c = search needs
 
-add-v : tie.Need-add-v Inv-loop μ-loop
-add-v c = search needs
+slice-read-united : tie.Need-slice-read-united Inv-loop μ-loop
+slice-read-united c = search needs
+
+mul-held-among : tie.Need-mul-held-among Inv-loop μ-loop
+mul-held-among c = search needs
+
+sub-held-among : tie.Need-sub-held-among Inv-loop μ-loop
+sub-held-among c = search needs
+
+part-held-among-start : tie.Need-part-held-among-start Inv-loop μ-loop
+part-held-among-start c = search needs
+
+part-held-among-end : tie.Need-part-held-among-end Inv-loop μ-loop
+part-held-among-end c = search needs
+
+held-among-requires : tie.Need-held-among-requires Inv-loop μ-loop
+held-among-requires c κs = search needs
+
+united-requires : tie.Need-united-requires Inv-loop μ-loop
+united-requires c κs = search needs
+
+mul-waiting : tie.Need-mul-waiting Inv-loop μ-loop
+mul-waiting c = search needs
+
+slice-write-waiting : tie.Need-slice-write-waiting Inv-loop μ-loop
+slice-write-waiting c = search needs
+
+add-i : tie.Need-add-i Inv-loop μ-loop
+add-i c = search needs
 
 loop-less : tie.Need-loop-less Inv-loop μ-loop
 loop-less c = search needs
 
 loop-again : tie.Need-loop-again Inv-loop μ-loop
 loop-again c =
-    let a = c .before .before .before .before .before .before .args in
-    let l = c .before .before .before .loop in
-    let P : Set = occupied (a .table .now) in
-    let word : ℕ = getD (a .table .now) (l .v) 0 in
-    ⊎-elim
-    (λ w.
-    rw (w .5) (
+    let a = c .before .before .before .before .before .before .before .before .args in
+    let l = c .before .before .before .before .before .loop in (
       search needs,
-      w .2 .ensures .0,
-      gained-more (waits (a .waiting .now)) P (l .v) (l .inv .2) (ap not (ne-eqb word 0 (w .0 .taken))) (w .2 .ensures .1),
-    ))
-    (λ w.
-    rw (w .1) (
-      search needs,
-      l .inv .1,
-      gained-pass (waits (a .waiting .now)) P (l .v) (l .inv .2) (ap not (eq-eqb word 0 (w .0 .left))),
-    ))
-    (c .if1 .came)
+      length-set (l .waiting) (l .i) (c .united .result) ∙ l .inv .1,
+      called-step (a .waiting .now) (a .table .now) (l .i) (l .waiting) (l .inv .2) (l .i * 32 + 32 - l .i * 32) (c .before .held-among .result) (c .united .result)
+          (omega arith) (omega (arith, l .inv .1)) (c .before .held-among .ensures) (c .united .ensures),
+    )
 
 same-length : tie.Need-same-length Inv-loop μ-loop
 same-length c = search needs
@@ -67,12 +78,9 @@ returns c =
     let s = c .before .before .before .before in
     let a = s .args in
     let l = c .before .loop in
-    let P : Set = occupied (a .table .now) in
-    let end : l .v ≡ 512 = omega arith in (
+    let end : l .i ≡ 16 = omega arith in (
       l .inv .1,
-      λ v.
-          ap (λ (X : Set). X v) (l .inv .2 ∙ ap (gained (waits (a .waiting .now)) P) end)
-          ∙ gained-all (waits (a .waiting .now)) P 512 (λ w h. none-past (a .table .now) w (omega (arith, s .pre .0))) v,
+      λ v. l .inv .2 v ∙ ap (λ (i : ℕ). called (a .waiting .now) (a .table .now) i v) end ∙ called-all (a .waiting .now) (a .table .now) (s .pre .0) v,
     )
 
 pub call-all-spec : {M : Type 1} → statement M
@@ -82,10 +90,19 @@ call-all-spec =
     Inv-loop
     μ-loop
     loop-holds
-    mul-if1
-    shared-slice-read-if1
-    put-in-requires
-    add-v
+    mul-at
+    add-end
+    mul-united
+    slice-read-united
+    mul-held-among
+    sub-held-among
+    part-held-among-start
+    part-held-among-end
+    held-among-requires
+    united-requires
+    mul-waiting
+    slice-write-waiting
+    add-i
     loop-less
     loop-again
     same-length
