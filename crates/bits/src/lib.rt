@@ -2,7 +2,8 @@
 ghost use mathlib.Core.Path.{_≡_};
 ghost use mathlib.Core.Bool.{true, false, not, Bool·beq};
 ghost use Prim.Native.Nat.{ℕ, _-_, _^_, _<_, _≤_};
-ghost use lib.Dec.{ltb};
+ghost use lib.Bits.{bitAnd};
+ghost use lib.Dec.{ltb, eqb};
 ghost use lib.ListN.{length, getD};
 ghost use Rattle.simulation.specs.Sets.{also, without, union, minus, anyBelow, count};
 ghost use Rattle.bits.specs.Word.{members, within, meets};
@@ -95,6 +96,16 @@ pub fn without_lowest(word: u32) -> u32
     ensures { λ r. ⌜ ((u : ℕ) → members word u ≡ true → ((i : ℕ) → i < u → members word i ≡ false) → members r ≡ without (members word) u) ⌝ }
 {
     word & (word - 1)
+}
+
+// Whether there is more than one member: the word without its lowest has one. It only decides which of two ways is quicker.
+pub fn several(word: u32) -> bool
+    ensures { λ r. ⌜ r ≡ not (eqb (bitAnd (word - 1) word) 0) ⌝ }
+{
+    if word == 0 {
+        return false;
+    }
+    (word - 1) & word != 0
 }
 
 // How many members there are.

@@ -37,12 +37,15 @@ pub fn index_callers(links: &[u32], callers: &mut [u32])
     }
 }
 
-// The states with a link to a state of the word: by the table, or by all links where there is none.
+// The states with a link to a state of the word: of one state by the table; of several, or where there is no table, by one pass over all links.
 pub fn calling(links: &[u32], callers: &[u32], word: u32) -> u32
     requires { ⌜ (length (now links) ≤ 32) × ((length (now callers) ≡ 0 → ⊥) → Callers (now links) (now callers)) ⌝ }
     ensures { λ r. ⌜ members r ≡ linksTo (now (links .entry)) word ⌝ }
 {
     if callers.len() == 0 {
+        return linking(links, word);
+    }
+    if bits::several(word) {
         return linking(links, word);
     }
     linked(callers, word)

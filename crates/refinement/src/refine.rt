@@ -12,6 +12,7 @@ use super::callers::CALLERS;
 use super::callers::calling;
 use super::callers::index_callers;
 use super::links::linked;
+use super::links::linking;
 use super::links::unlinked;
 use super::starts::STARTS;
 use super::starts::index_starts;
@@ -73,6 +74,9 @@ pub fn kept(word: u32, links: &[u32], edges: &[u32], settled: &[u32], tentative:
     let lacking = unmet(word, links, edges, settled, tentative);
     if lacking == 0 {
         return word;
+    }
+    if bits::several(word) {
+        return bits::difference(word, linking(links, lacking));
     }
     unlinked(links, word, lacking)
 }

@@ -1,8 +1,10 @@
--- `refinement::refine::kept` meets its contract: the states with a link that is not met go.
-use native.Mathlib.Omega.{arith}
-use mathlib.Core.Path.{_∙_}
+-- `refinement::refine::kept` meets its contract: the states with a link that is not met go, whichever way they are found.
+use Rattle.bits.specs.Word.{members}
 use Rattle.refinement.proofs.Kept.{kept-without, kept-whole}
+use Rattle.simulation.specs.Sets.{minus}
 use borrow.Author.Needs.{needs}
+use mathlib.Core.Path.{ap, _∙_}
+use native.Mathlib.Omega.{arith}
 use Rattle.refinement.proofs.refine.kept.Statement.{statement}
 use Rattle.refinement.proofs.refine.kept.Tie as tie
 
@@ -16,15 +18,36 @@ returns c =
     kept-whole (a .word) (a .links .now) (a .edges .now) (a .settled .now) (a .tentative .now) (c .before .unmet .result) (c .before .unmet .ensures)
     (omega (arith, s .pre)) (c .if1 .taken)
 
-unlinked-requires : tie.Need-unlinked-requires
-unlinked-requires c κs = search needs
+several-requires : tie.Need-several-requires
+several-requires c κs = search needs
+
+linking-requires : tie.Need-linking-requires
+linking-requires c κs = search needs
+
+difference-requires : tie.Need-difference-requires
+difference-requires c κs = search needs
 
 returns-2 : tie.Need-returns-2
 returns-2 c =
-    let s = c .before .before .before .before .before .before .before in
+    let s = c .before .before .before .before .before .before .before .before .before .before in
     let a = s .args in
+    let found = c .before .before .before .before .before .unmet in
+    c .difference .ensures
+    ∙ ap (minus (members (a .word))) (c .before .linking .ensures)
+    ∙ kept-without (a .word) (a .links .now) (a .edges .now) (a .settled .now) (a .tentative .now) (found .result) (found .ensures) (omega (arith, s .pre))
+
+unlinked-requires : tie.Need-unlinked-requires
+unlinked-requires c κs = search needs
+
+returns-3 : tie.Need-returns-3
+returns-3 c =
+    let s = c .before .before .before .before .before .before .before .before .before in
+    let a = s .args in
+    let found = c .before .before .before .before .unmet in
     c .unlinked .ensures
-    ∙ kept-without (a .word) (a .links .now) (a .edges .now) (a .settled .now) (a .tentative .now) (c .before .before .unmet .result) (c .before .before .unmet .ensures) (omega (arith, s .pre))
+    ∙ kept-without (a .word) (a .links .now) (a .edges .now) (a .settled .now) (a .tentative .now) (found .result) (found .ensures) (omega (arith, s .pre))
 
 pub kept-spec : {M : Type 1} → statement M
-kept-spec = tie.close (tie.spec unmet-requires returns unlinked-requires returns-2)
+kept-spec =
+    tie.close
+    (tie.spec unmet-requires returns several-requires linking-requires difference-requires returns-2 unlinked-requires returns-3)
