@@ -102,10 +102,10 @@ pub fn without_lowest(word: u32) -> u32
 pub fn several(word: u32) -> bool
     ensures { λ r. ⌜ r ≡ not (eqb (bitAnd (word - 1) word) 0) ⌝ }
 {
-    if word == 0 {
-        return false;
+    if word != 0 {
+        return (word - 1) & word != 0;
     }
-    (word - 1) & word != 0
+    false
 }
 
 // How many members there are.
