@@ -1,12 +1,13 @@
 // Sets of the numbers 0 to 31, each held in a word: bit i is 1 where i is a member.
 ghost use mathlib.Core.Path.{_≡_};
-ghost use mathlib.Core.Bool.{true, false, not, Bool·beq};
+ghost use mathlib.Core.Bool.{true, false, not, Bool·beq, cond};
 ghost use Prim.Native.Nat.{ℕ, _-_, _^_, _<_, _≤_};
 ghost use lib.Bits.{bitAnd};
 ghost use lib.Dec.{ltb, eqb};
 ghost use lib.ListN.{length, getD};
 ghost use Rattle.simulation.specs.Sets.{also, without, union, minus, anyBelow, count};
 ghost use Rattle.bits.specs.Word.{members, within, meets};
+ghost use Rattle.bits.specs.Word.{members, within};
 
 // Whether i is a member.
 pub fn has(word: u32, i: u32) -> bool
@@ -134,4 +135,17 @@ pub fn gathered(words: &[u32]) -> u32
         k += 1;
     }
     all
+}
+
+// The word where the test holds, and no bit where it does not: a fold over it has no branch.
+pub fn picked(word: u32, test: bool) -> u32
+    ensures { λ r. ⌜ r ≡ cond test word 0 ⌝ }
+{
+    if test { word } else { 0 }
+}
+
+pub fn picked_half(word: u16, test: bool) -> u16
+    ensures { λ r. ⌜ r ≡ cond test word 0 ⌝ }
+{
+    if test { word } else { 0 }
 }

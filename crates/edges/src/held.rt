@@ -1,8 +1,8 @@
 // The edges that a session holds: one looked for, one put in, one taken out.
 ghost use mathlib.Core.Path.{_≡_};
-ghost use mathlib.Core.Bool.{true, false};
+ghost use mathlib.Core.Bool.{true};
 ghost use mathlib.Core.List.{_++_};
-ghost use Prim.Native.Nat.{ℕ, _<_};
+ghost use Prim.Native.Nat.{_<_};
 ghost use lib.ListN.{length, drop};
 ghost use Rattle.session.specs.Limits.{fixedSize, maxEdges};
 ghost use Rattle.session.specs.Trigger.{nodes, edge, withEdge, withoutEdge};

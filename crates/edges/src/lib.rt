@@ -2,18 +2,48 @@
 ghost use mathlib.Core.Path.{_≡_};
 ghost use mathlib.Core.Bool.{true};
 ghost use mathlib.Core.List.{[], _∷_, _++_};
-ghost use Prim.Native.Nat.{ℕ, _-_, _<_, _≤_};
-ghost use lib.ListN.{length, take, drop};
-ghost use Rattle.simulation.specs.Ordered.{elem, ascends, insert, remove};
+ghost use Prim.Native.Nat.{_+_, _-_, _<_, _≤_};
+ghost use lib.Dec.{leb};
+ghost use lib.ListN.{length, getD, take, drop};
+ghost use Rattle.simulation.specs.Search.{first};
+ghost use Rattle.simulation.specs.Ordered.{ascends, from, elem, insert, remove};
+ghost use Rattle.session.specs.Limits.{maxNodes};
+ghost use Rattle.session.specs.Layout.{part};
 
 pub mod held;
+
+// The index of the first edge that is not below the code, by halving.
+pub fn place_of(edges: &[u32], code: u32) -> usize
+    requires { ⌜ ascends (now edges) ≡ true ⌝ }
+    ensures { λ r. ⌜ r ≡ first (λ k. leb code (getD (now (edges .entry)) k 0)) 0 (length (now (edges .entry))) ⌝ }
+{
+    let mut low = 0;
+    let mut high = edges.len();
+    while low < high {
+        let middle = low + (high - low) / 2;
+        if edges[middle] < code {
+            low = middle + 1;
+        } else {
+            high = middle;
+        }
+    }
+    low
+}
+
+// The index of the first edge that starts at v or after it.
+pub fn first_edge(edges: &[u32], v: u32) -> usize
+    requires { ⌜ (ascends (now edges) ≡ true) × (v ≤ maxNodes) ⌝ }
+    ensures { λ r. ⌜ r ≡ from maxNodes (now (edges .entry)) v ⌝ }
+{
+    place_of(edges, v * session::EDGE_BASE)
+}
 
 // Whether the ascending list has the edge.
 pub fn has_edge(edges: &[u32], code: u32) -> bool
     requires { ⌜ ascends (now edges) ≡ true ⌝ }
     ensures { λ r. ⌜ r ≡ elem code (now (edges .entry)) ⌝ }
 {
-    let at = session::place_of(edges, code);
+    let at = place_of(edges, code);
     at < edges.len() && edges[at] == code
 }
 
@@ -49,7 +79,7 @@ pub fn put_edge(edges: &mut [u32], code: u32)
     ensures { λ r. ⌜ now (edges .exit) ≡ insert code (take (length (now (edges .entry)) - 1) (now (edges .entry))) ⌝ }
 {
     let last = edges.len() - 1;
-    let at = session::place_of(&edges[..last], code);
+    let at = place_of(&edges[..last], code);
     move_up(&mut edges[at..]);
     edges[at] = code;
 }
@@ -59,6 +89,6 @@ pub fn drop_edge(edges: &mut [u32], code: u32)
     requires { ⌜ (ascends (now edges) ≡ true) × (elem code (now edges) ≡ true) ⌝ }
     ensures { λ r. ⌜ now (edges .exit) ≡ remove code (now (edges .entry)) ++ (0 ∷ []) ⌝ }
 {
-    let at = session::place_of(edges, code);
+    let at = place_of(edges, code);
     move_down(&mut edges[at..]);
 }

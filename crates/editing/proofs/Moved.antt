@@ -13,13 +13,13 @@ use Rattle.session.proofs.Valid.{TriggerFacts, GraphFacts}
 use Rattle.session.proofs.Image.{length-image, drop-image}
 use Rattle.session.proofs.Decoded as decoded
 use Rattle.session.proofs.Decoded.{LayoutFacts, layout-facts, trigger-image, graph-image, marks-image, layout-image}
-use Rattle.refinement.specs.Tables.{marked}
+use Rattle.pair_tables.specs.Tables.{marked}
 use Rattle.promises.specs.Standing.{stands}
 use Rattle.promises.specs.Rules.{Kind, insertion, deletion, edited, graphRules, verdict}
 use Rattle.promises.specs.Promises.{Left, Free, trialCount, Done}
 use Rattle.promises.proofs.Edits.{edited-facts}
-use Rattle.reports.specs.Marks.{Inside}
-use Rattle.reports.proofs.Held.{saved-marks, held-marks}
+use Rattle.session_parts.specs.Inside.{Inside}
+use Rattle.session_parts.proofs.Parts.{saved-marks, held-marks}
 use Rattle.editing.specs.Steps.{Saved}
 
 -- a session that is left with something is as long as before

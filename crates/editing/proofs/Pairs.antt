@@ -17,7 +17,7 @@ use Rattle.bits.proofs.Words.{zero-members}
 use Rattle.session.specs.Trigger.{Trigger, Graph, Marks, states, nodes, pattern}
 use Rattle.session.specs.Layout.{triggerOf, graphOf}
 use Rattle.session.proofs.Decoded.{Inside}
-use Rattle.refinement.specs.Tables.{marked}
+use Rattle.pair_tables.specs.Tables.{marked}
 use Rattle.promises.specs.Standing.{pairsOf}
 use Rattle.editing.specs.Steps.{Holds}
 

@@ -15,10 +15,12 @@ use Rattle.bits.proofs.Words.{zero-members}
 use Rattle.session.specs.Trigger.{Trigger, Graph, Marks, states, nodes, pattern}
 use Rattle.session.specs.Layout.{triggerOf, graphOf, marksOf, inLayout}
 use Rattle.session.proofs.Decoded.{LayoutFacts, layout-facts}
-use Rattle.refinement.specs.Tables.{marked, waits, Settled}
-use Rattle.reports.specs.Marks.{Inside}
-use Rattle.reports.proofs.Systems.{settled-refined}
-use Rattle.reports.proofs.Held.{held-marks}
+use Rattle.pair_tables.specs.Tables.{marked}
+use Rattle.worklist.specs.Waiting.{waits}
+use Rattle.refinement.specs.Refining.{Settled}
+use Rattle.session_parts.specs.Inside.{Inside}
+use Rattle.refinement.proofs.Systems.{settled-refined}
+use Rattle.session_parts.proofs.Parts.{held-marks}
 use Rattle.editing.specs.Steps.{Holds, markedPairs, backed, Ceased}
 use Rattle.editing.proofs.Pairs.{no-pairs}
 

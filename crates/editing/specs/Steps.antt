@@ -12,10 +12,11 @@ use Rattle.session.specs.Limits.{maxNodes, maxChanges, fixedSize}
 use Rattle.session.specs.Trigger.{Trigger, Graph, Marks, states, nodes, linked, admits, pattern}
 use Rattle.session.specs.Layout.{triggerOf, graphOf, marksOf, inLayout}
 use Rattle.bits.specs.Word.{members}
-use Rattle.refinement.specs.Tables.{marked, endsAt}
+use Rattle.pair_tables.specs.Tables.{marked}
+use Rattle.edge_indexes.specs.Indexes.{endsAt}
 use Rattle.promises.specs.Standing.{pairsOf, fresh, trialSet}
 use Rattle.promises.specs.Rules.{Rule, rule, Kind, insertion, deletion}
-use Rattle.reports.specs.Marks.{Inside}
+use Rattle.session_parts.specs.Inside.{Inside}
 
 -- a table holds exactly the pairs of X
 pub record Holds (xs : List ℕ) (X : Set) (ts : List ℕ) : Type 0 where

@@ -1,8 +1,7 @@
 // The edits: one edge put in or taken out, and the marks corrected.
-pub mod alone;
-pub mod calls;
-pub mod deletion;
-pub mod effect;
-pub mod insertion;
-pub mod outcome;
-pub mod rules;
+
+// What an edit proper tells beside what it leaves: how many pairs were tried, and whether it left the marks alone.
+pub struct Effect {
+    pub trials: u32,
+    pub calm: bool,
+}

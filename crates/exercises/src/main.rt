@@ -1,5 +1,6 @@
 // The session of the specification, its worked cases and the refusals of edits, played by the library's calls: each
 // line has what a call answered, and whether that is what the specification says.
+
 mod rows;
 
 use rows::Kind;

@@ -6,7 +6,6 @@ pub mod Listed
 pub mod Fronts
 pub mod Numbers
 pub mod Few
-pub mod Takes
 pub mod Kept
 pub mod Played
 pub mod Programs

@@ -13,8 +13,8 @@ use Rattle.promises.specs.declared.StateOrder.{StateOrder}
 use Rattle.promises.specs.Answers.{Outcome, Summary, accepted, refused, told, toldOrder, handedBack}
 use Rattle.promises.specs.Rules.{Rule, rule, verdict, Given, given, Kind}
 use Rattle.promises.specs.Promises.{Loaded, Edited, Ordered}
-use Rattle.frames.specs.declared.machine.Taken.{Taken}
-use Rattle.frames.specs.declared.machine.Taken.the-variants as T
+use Rattle.frames.specs.declared.Taken.{Taken}
+use Rattle.frames.specs.declared.Taken.the-variants as T
 use Rattle.frames.specs.Frames.{Frame, state, node, run, edit, walk, nothing, frameOf}
 use Rattle.frames.specs.Outputs.{refusal, answered, ordered}
 

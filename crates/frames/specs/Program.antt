@@ -10,7 +10,7 @@ use Rattle.promises.specs.Answers.{Outcome, accepted, refused}
 use Rattle.promises.specs.Rules.{Given, Kind}
 use Rattle.promises.specs.Model.{Model, step, editing}
 use Rattle.promises.specs.Demands.{Call, Demand2, Demand3, Kept}
-use Rattle.frames.specs.declared.machine.Taken.{Taken}
+use Rattle.frames.specs.declared.Taken.{Taken}
 use Rattle.frames.specs.Frames.{Frame, state, node, run, edit, walk, nothing, frameOf}
 use Rattle.frames.specs.Outputs.{each}
 use Rattle.frames.specs.Machine.{Memory, memory, countsSize, wordsSize, outputSize, statesRead, nodesRead, readSoFar, toldTaken, Stepped}

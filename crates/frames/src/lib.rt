@@ -1,10 +1,10 @@
 // Frames: a line of bytes is read, the machine carries it out, and answers are written as lines.
-pub mod answers;
-pub mod digits;
-pub mod lines;
-pub mod machine;
-pub mod reading;
-pub mod writing;
+
+// How many bytes of output a line gave, or the rule that the lent memory breaks.
+pub enum Taken {
+    Written(usize),
+    Refused(u8),
+}
 
 pub struct State {
     pub mask: u16,

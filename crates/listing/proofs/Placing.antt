@@ -19,7 +19,7 @@ use Rattle.simulation.proofs.Sets.{and-l, and-r}
 use Rattle.simulation.proofs.Search.{lt-or-le}
 use Rattle.bits.specs.Word.{members}
 use Rattle.bits.proofs.Words.{zero-members, and-members}
-use Rattle.refinement.specs.Tables.{marked}
+use Rattle.pair_tables.specs.Tables.{marked}
 use Rattle.listing.specs.Changes.{sizeOf, signed, change, joinTo}
 use Rattle.listing.specs.Placed.{nodeChanges, tableChanges, Placed}
 use Rattle.listing.proofs.Lists.{change-short, change-none, join-short, join-none}

@@ -2,4 +2,3 @@
 pub mod Changes
 pub mod Order
 pub mod Placed
-pub mod Walks

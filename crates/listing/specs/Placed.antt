@@ -5,7 +5,7 @@ use mathlib.Core.List.{List, _++_}
 use lib.IntN.{ℤ}
 use lib.ListN.{length, take, drop}
 use Rattle.bits.specs.Word.{members}
-use Rattle.refinement.specs.Tables.{marked}
+use Rattle.pair_tables.specs.Tables.{marked}
 use Rattle.listing.specs.Changes.{sizeOf, change, joinTo}
 
 -- the changes of the node v, of n states, from the word b to the word a; and those of m nodes, from table to table

@@ -1,3 +1,1 @@
 // The two lists that answers carry: the changes, and the states in depth-first order.
-pub mod changes;
-pub mod depth_first;

@@ -1,13 +1,9 @@
 // The engine's calls, gathered. What each promises is defined in the crate `promises`.
-mod loading;
-mod questions;
-mod solve;
-
-pub use editing::calls::delete;
-pub use editing::calls::insert;
-pub use listing::changes::begins;
-pub use listing::changes::pair_of;
-pub use listing::changes::size_of;
+pub use change_lists::begins;
+pub use change_lists::pair_of;
+pub use change_lists::size_of;
+pub use edit_calls::delete;
+pub use edit_calls::insert;
 pub use loading::load;
 pub use promises::Answer;
 pub use promises::Firing;
@@ -19,4 +15,4 @@ pub use promises::StateOrder;
 pub use questions::fires;
 pub use questions::matches;
 pub use questions::order;
-pub use reports::answers::changed_part;
+pub use reports::changed_part;

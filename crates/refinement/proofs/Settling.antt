@@ -26,7 +26,11 @@ use Rattle.simulation.proofs.Edges.{all-same, elem-joins, joins-elem, from-le, 
 use Rattle.bits.specs.Word.{members, meets}
 use Rattle.bits.proofs.Words.{same-below}
 use Rattle.session.specs.Limits.{maxNodes}
-use Rattle.refinement.specs.Tables.{marked, linksTo, carried, whole, keptOf, edgesFrom, waits, endsAt, precedes, Sound, Turned, patternOf, tabled, Refining, Settled}
+use Rattle.pair_tables.specs.Tables.{marked}
+use Rattle.links.specs.Links.{linksTo}
+use Rattle.refinement.specs.Refining.{carried, whole, keptOf, Sound, Turned, patternOf, tabled, Refining, Settled}
+use Rattle.edge_indexes.specs.Indexes.{edgesFrom, endsAt, precedes}
+use Rattle.worklist.specs.Waiting.{waits}
 
 -- ---- the edges from a node
 

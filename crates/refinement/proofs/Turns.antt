@@ -1,28 +1,24 @@
 -- One look at a node, from what its calls ensure.
-use Prim.Native.Nat.{ℕ, zero, suc, _+_, _-_, _*_, _/_, _%_, _<_, _≤_}
+use Prim.Native.Nat.{ℕ, _<_}
 use native.Mathlib.Omega.{arith}
 use mathlib.Core.Path.{_≡_, refl, sym, _∙_, ap}
 use mathlib.Core.Bool.{Bool, true, false, not, _&&_, _||_, and-false, or-false}
 use mathlib.Core.Path.{fun-ext}
 use mathlib.Core.List.{List}
-use lib.ListN.{length, getD, set, take, drop, replicate, length-set}
+use lib.ListN.{length, getD, set, length-set}
 use lib.Seq.{getD-set-same, getD-set-other}
 use Rattle.simulation.specs.Sets.{Set, minus, without, anyBelow}
-use Rattle.simulation.specs.Ordered.{from}
 use Rattle.simulation.proofs.Sets.{clash, refuted, any-take}
 use Rattle.bits.specs.Word.{members, meets}
 use Rattle.bits.proofs.Words.{zero-members}
 use Rattle.session.specs.Limits.{maxNodes}
 use Rattle.session.specs.Layout.{below}
 use Rattle.session.proofs.Tables.{below-make}
-use Rattle.refinement.specs.Tables.{linksTo, keptOf, edgesFrom, waits, precedes, Sound, Turned}
-use Rattle.refinement.proofs.Linked.{links-none}
-
--- a table that was just made is zero everywhere
-pub zeros : (n v : ℕ) → getD {A = ℕ} (replicate n 0) v 0 ≡ 0
-zeros zero v = refl
-zeros (suc n) zero = refl
-zeros (suc n) (suc v) = zeros n v
+use Rattle.links.specs.Links.{linksTo}
+use Rattle.refinement.specs.Refining.{keptOf, Sound, Turned}
+use Rattle.edge_indexes.specs.Indexes.{edgesFrom, precedes}
+use Rattle.worklist.specs.Waiting.{waits}
+use Rattle.links.proofs.LinkSets.{links-none}
 
 -- edges between nodes are small numbers
 pub sound-below : (nodes : ℕ) (links es : List ℕ) → Sound nodes links es → below 262144 es ≡ true
@@ -39,11 +35,6 @@ sound-wider nodes links es s = record {
   starts = λ k l. omega (arith, s .starts k l, s .few-nodes);
   ends = λ k l. omega (arith, s .ends k l, s .few-nodes);
 }
-
--- the edges of v, by the two ends of their range
-pub range-from : (es : List ℕ) (v low high : ℕ) → low ≡ from maxNodes es v → high ≡ from maxNodes es (v + 1) → take (high - low) (drop low es) ≡ edgesFrom es v
-unfolding edgesFrom
-range-from es v low high low-is high-is = rw (low-is, high-is) refl
 
 module _ (links es ss ts ws : List ℕ) (v : ℕ) (inside : v < length ts) (ws₁ : List ℕ) (long : length ws₁ ≡ length ws)
     (out : waits ws₁ ≡ without (waits ws) v) (left : ℕ) (kept : members left ≡ keptOf (getD ts v 0) links (edgesFrom es v) ss ts) where

@@ -1,2 +1,2 @@
 -- What the inner loops compute.
-pub mod Tables
+pub mod Refining

@@ -1,4 +1,3 @@
 -- From tables to what a session holds.
-pub mod Systems
 pub mod Held
 pub mod Reported

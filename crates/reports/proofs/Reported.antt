@@ -8,7 +8,7 @@ use lib.IntN.{ℤ}
 use lib.ListN.{length, getD, take, drop}
 use Rattle.session.specs.Trigger.{Marks}
 use Rattle.session.specs.Layout.{triggerOf, graphOf, marksOf, inLayout}
-use Rattle.refinement.specs.Tables.{marked}
+use Rattle.pair_tables.specs.Tables.{marked}
 use Rattle.listing.specs.Changes.{changes}
 use Rattle.listing.specs.Placed.{tableChanges, Placed}
 use Rattle.listing.proofs.Lists.{changes-none}
@@ -19,7 +19,8 @@ use Rattle.promises.specs.Standing.{fires}
 use Rattle.promises.specs.Answers.{accepted, firing}
 use Rattle.promises.specs.Promises.{Reported}
 use Rattle.reports.specs.Marks.{Tells}
-use Rattle.reports.proofs.Held.{held-marks, held-changes}
+use Rattle.session_parts.proofs.Parts.{held-marks}
+use Rattle.reports.proofs.Held.{held-changes}
 
 -- an answer by the firing that was read
 pub tells : (xs : List ℕ) (trials n : ℕ) (f : Firing) → firing f ≡ fires (triggerOf xs) (graphOf xs) (marksOf xs)

@@ -1,6 +1,105 @@
 // What a load and an edit share: marks put into a session, and the report of a call.
-pub mod answers;
-pub mod marks;
-pub mod parts;
-pub mod report;
-pub mod rules;
+ghost use mathlib.Core.Path.{_≡_};
+ghost use mathlib.Core.Bool.{_||_, true};
+ghost use lib.Dec.{ltb};
+ghost use Rattle.session.specs.Limits.{fixedSize, maxChanges, maxNodes};
+ghost use Prim.Native.Nat.{_≤_};
+ghost use lib.ListN.{length, getD};
+ghost use Rattle.simulation.specs.Sets.{allBelow, anyBelow};
+ghost use Rattle.bits.specs.Word.{members};
+ghost use Rattle.session.specs.Layout.{triggerOf, graphOf, inLayout, marksOf};
+ghost use Rattle.pair_tables.specs.Tables.{marked};
+ghost use Rattle.promises.specs.Answers.{firing, told, changesTold, handedBack};
+ghost use Rattle.listing.specs.Changes.{changes};
+ghost use Rattle.promises.specs.Promises.{Reported};
+ghost use Rattle.reports.specs.Marks.{Tells};
+use change_lists::write_changes;
+use promises::Answer;
+use promises::Firing;
+use promises::Report;
+
+// Rule 3: the memory or the room is too short.
+pub fn too_short(memory: usize, room: usize) -> bool
+    ensures { λ r. ⌜ r ≡ (ltb memory fixedSize || ltb room maxChanges) ⌝ }
+{
+    memory < session::FIXED_SIZE || room < session::MAX_CHANGES
+}
+
+// Whether each of the states is marked in some word.
+pub fn all_marked(words: &[u32], states: u32) -> bool
+    requires { ⌜ states ≤ 32 ⌝ }
+    ensures { λ r. ⌜ r ≡ allBelow states (λ u. anyBelow (length (now (words .entry))) (λ v. members (getD (now (words .entry)) v 0) u)) ⌝ }
+{
+    bits::subset(bits::below(states), bits::gathered(words))
+}
+
+// Whether a report says that the trigger fires.
+pub fn says(answer: Firing) -> bool
+    ensures { λ r. ⌜ r ≡ firing answer ⌝ }
+{
+    match answer {
+        Firing::Fires => true,
+        Firing::Silent => false,
+    }
+}
+
+// How many changes an answer tells of.
+pub fn changes_in(answer: Answer) -> u32
+    ensures { λ r. ⌜ r ≡ changesTold (told answer) ⌝ }
+{
+    match answer {
+        Answer::Accepted(report) => report.changes,
+        Answer::Refused(_) => 0,
+    }
+}
+
+// The filled front of the room: nothing for a refused answer, or where the room is shorter than the answer's number of changes.
+pub fn changed_part(changes: &[i32], answer: Answer) -> &[i32]
+    ensures { λ r. ⌜ now r ≡ handedBack (now (changes .entry)) answer ⌝ }
+{
+    let n = changes_in(answer) as usize;
+    if n <= changes.len() {
+        &changes[..n]
+    } else {
+        &changes[..0]
+    }
+}
+
+// The answer with these counts: firing is read from the marks that the session holds.
+pub fn answered(session: &[u32], trials: u32, changes: u32) -> Answer
+    requires { ⌜ inLayout (now session) ≡ true ⌝ }
+    ensures { λ r. ⌜ Tells (now (session .entry)) trials changes r ⌝ }
+{
+    let states = session[0];
+    let end = session::MARKS_AT + session[1] as usize;
+    if all_marked(&session[session::MARKS_AT..end], states) {
+        Answer::Accepted(Report {
+            firing: Firing::Fires,
+            trials,
+            changes,
+        })
+    } else {
+        Answer::Accepted(Report {
+            firing: Firing::Silent,
+            trials,
+            changes,
+        })
+    }
+}
+
+// Writes the changes from the marks of the table to those that the session holds, and makes the answer.
+pub fn report(session: &[u32], before: &[u32], trials: u32, room: &mut [i32]) -> Answer
+    requires { ⌜ (inLayout (now session) ≡ true) × (length (now before) ≡ maxNodes) × (maxChanges ≤ length (now room)) ⌝ }
+    ensures { λ r. ⌜ Reported (triggerOf (now (session .entry))) (graphOf (now (session .entry))) (marksOf (now (session .entry))) trials (changes (triggerOf (now (session .entry))) (graphOf (now (session .entry))) (marked (now (before .entry))) (marksOf (now (session .entry)))) (now (room .entry)) r (now (room .exit)) ⌝ }
+{
+    let states = session[0];
+    let nodes = session[1] as usize;
+    let count = write_changes(
+        room,
+        states,
+        nodes,
+        before,
+        &session[session::MARKS_AT..session::FIXED_SIZE],
+    ) as u32;
+    answered(session, trials, count)
+}

@@ -9,3 +9,5 @@ pub mod Search
 pub mod Ordered
 pub mod Edges
 pub mod Plain
+pub mod Folds
+pub mod Gains

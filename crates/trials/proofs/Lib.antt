@@ -1,4 +1,3 @@
--- The laws by which the growth and the tables meet their contracts.
-pub mod Tabling
-pub mod Spreading
-pub mod Growing
+-- trial_pairs: laws.
+pub mod Lonely
+pub mod Trying

@@ -13,8 +13,8 @@ use Rattle.session.specs.Limits.{maxStates, maxNodes}
 use Rattle.promises.specs.Answers.{Outcome, accepted}
 use Rattle.promises.specs.Rules.{verdict}
 use Rattle.promises.proofs.Verdicts.{accepts-or, verdict-pass}
-use Rattle.frames.specs.declared.machine.Taken.{Taken}
-use Rattle.frames.specs.declared.machine.Taken.the-variants as T
+use Rattle.frames.specs.declared.Taken.{Taken}
+use Rattle.frames.specs.declared.Taken.the-variants as T
 use Rattle.frames.specs.Frames.{Frame, state, node, run, edit, walk, nothing, frameOf}
 use Rattle.frames.specs.Machine.{Memory, statesRead, nodesRead, tooSmall, miscounted, memoryRules, toldTaken, Prints, Before, After, Stepped}
 

@@ -2,15 +2,15 @@
 ghost use mathlib.Core.Path.{_≡_};
 ghost use Prim.Native.Nat.{_≤_};
 ghost use lib.ListN.{length};
-use frames::lines::KEPT;
-use frames::lines::gather;
-use frames::machine::COUNTS_SIZE;
-use frames::machine::OUTPUT_SIZE;
-use frames::machine::Taken;
-use frames::machine::WORDS_SIZE;
-use frames::machine::take_line;
+use frame_machine::COUNTS_SIZE;
+use frame_machine::OUTPUT_SIZE;
+use frame_machine::WORDS_SIZE;
+use frame_machine::take_line;
+use frames::Taken;
 use libc::STDIN_FILENO;
 use libc::STDOUT_FILENO;
+use line_gathering::KEPT;
+use line_gathering::gather;
 
 // How many bytes of output wait to be written, and whether the program goes on.
 struct Output {

@@ -4,16 +4,13 @@ ghost use mathlib.Core.Path.{_≡_};
 ghost use Rattle.session.specs.Limits.{fixedSize, maxChanges};
 ghost use Rattle.promises.specs.Rules.{given};
 ghost use Rattle.promises.specs.Promises.{Loaded, Inserted, Deleted, Matches, Fires};
-ghost use Rattle.trigger_engine.specs.Packed.{Packs, answerNumber, standingNumber, firingNumber, OrderWritten};
-
-mod packing;
-
+ghost use Rattle.answer_numbers.specs.Packed.{Packs, answerNumber, standingNumber, firingNumber, OrderWritten};
+use answer_numbers::answer_number;
+use answer_numbers::fill_front;
+use answer_numbers::firing_number;
+use answer_numbers::order_number;
+use answer_numbers::standing_number;
 use matching::OrderAnswer;
-use packing::answer_number;
-use packing::fill_front;
-use packing::firing_number;
-use packing::order_number;
-use packing::standing_number;
 
 // How many words a session has.
 #[no_mangle]

@@ -3,7 +3,7 @@ use borrow.Author.Needs.{needs}
 use native.Mathlib.Omega.{arith}
 use mathlib.Core.Path.{ap}
 use Rattle.promises.specs.Answers.{toldOrder}
-use Rattle.trigger_engine.proofs.Orders.{order-short, order-listed, order-refused}
+use Rattle.answer_numbers.proofs.Orders.{order-short, order-listed, order-refused}
 use Rattle.trigger_engine.proofs.trigger_order.Statement.{statement}
 use Rattle.trigger_engine.proofs.trigger_order.Tie as tie
 

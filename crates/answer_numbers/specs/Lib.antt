@@ -1,0 +1,2 @@
+-- answer_numbers: definitions.
+pub mod Packed

@@ -1,0 +1,2 @@
+-- change_lists: laws.
+pub mod Signs

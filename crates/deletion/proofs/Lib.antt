@@ -1,0 +1,5 @@
+-- deletion: laws.
+pub mod Counting
+pub mod Deleted
+pub mod Deleting
+pub mod SteadyNodes

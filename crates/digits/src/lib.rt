@@ -1,0 +1,98 @@
+// Hexadecimal digits: a byte or a line read, a number written.
+ghost use mathlib.Core.Path.{_≡_};
+ghost use mathlib.Core.Bool.{true};
+ghost use Prim.Native.Nat.{_<_, _≤_, _+_};
+ghost use lib.ListN.{length};
+ghost use Rattle.listing.specs.Placed.{Placed};
+ghost use Rattle.frames.specs.Digits as d;
+
+// The value of a digit, and 16 for a byte that is none.
+pub fn digit(byte: u8) -> u32
+    ensures { λ r. ⌜ r ≡ d.digit byte ⌝ }
+{
+    if byte < 48 {
+        return 16;
+    }
+    if byte <= 57 {
+        return (byte - 48) as u32;
+    }
+    if byte < 65 {
+        return 16;
+    }
+    if byte <= 70 {
+        return (byte - 55) as u32;
+    }
+    16
+}
+
+// Whether each byte is a digit.
+pub fn hexadecimal(line: &[u8]) -> bool
+    ensures { λ r. ⌜ r ≡ d.hexadecimal (now (line .entry)) ⌝ }
+{
+    let mut faults: u32 = 0;
+    let mut k = 0;
+    while k < line.len() {
+        if 16 <= digit(line[k]) {
+            faults = 1;
+        }
+        k += 1;
+    }
+    faults == 0
+}
+
+// The number that the digits write, the most significant first.
+pub fn number(digits: &[u8]) -> u32
+    requires { ⌜ (length (now digits) ≤ 4) × (d.hexadecimal (now digits) ≡ true) ⌝ }
+    ensures { λ r. ⌜ r ≡ d.number (now (digits .entry)) ⌝ }
+{
+    let mut value = 0;
+    let mut k = 0;
+    while k < digits.len() {
+        value = value * 16 + digit(digits[k]);
+        k += 1;
+    }
+    value
+}
+
+// The same, as a word of 16 bits.
+pub fn half(digits: &[u8]) -> u16
+    requires { ⌜ (length (now digits) ≤ 4) × (d.hexadecimal (now digits) ≡ true) ⌝ }
+    ensures { λ r. ⌜ r ≡ d.number (now (digits .entry)) ⌝ }
+{
+    number(digits) as u16
+}
+
+// The digit of a number at a place from the right.
+pub fn place(value: u32, i: u32) -> u32
+    requires { ⌜ i < 8 ⌝ }
+    ensures { λ r. ⌜ r ≡ d.place value i ⌝ }
+{
+    (value >> (i * 4)) % 16
+}
+
+// The byte of a digit.
+pub fn letter(digit: u32) -> u8
+    requires { ⌜ digit < 16 ⌝ }
+    ensures { λ r. ⌜ r ≡ d.letter digit ⌝ }
+{
+    if digit < 10 {
+        (48 + digit) as u8
+    } else {
+        (55 + digit) as u8
+    }
+}
+
+// Writes a number in so many digits, the most significant first.
+pub fn put_digits(out: &mut [u8], at: usize, count: u32, value: u32) -> usize
+    requires { ⌜ (count ≤ 8) × (at + count ≤ length (now out)) ⌝ }
+    ensures { λ r. ⌜ Placed (now (out .entry)) at (d.digits count value) (now (out .exit)) r ⌝ }
+{
+    let mut next = at;
+    let mut left = count;
+    while 0 < left {
+        left -= 1;
+        out[next] = letter(place(value, left));
+        next += 1;
+    }
+    next
+}

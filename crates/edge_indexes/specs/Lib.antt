@@ -1,0 +1,2 @@
+-- edge_indexes: definitions.
+pub mod Indexes

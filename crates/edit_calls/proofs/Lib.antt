@@ -1,0 +1,2 @@
+-- edit_calls: laws.
+pub mod Called

@@ -1,0 +1,2 @@
+-- edit_rules: laws.
+pub mod Ruled

@@ -1,0 +1,2 @@
+-- frame_steps: laws.
+pub mod Takes

@@ -1,0 +1,133 @@
+// What each frame does: a state or a node kept, a run, an edit, the order.
+ghost use mathlib.Core.Path.{_≡_};
+ghost use mathlib.Core.List.{List};
+ghost use Prim.Native.Nat.{ℕ, _<_, _≤_};
+ghost use lib.IntN.{ℤ};
+ghost use lib.ListN.{length, getD};
+ghost use Rattle.session.specs.Limits.{maxStates, maxNodes};
+ghost use Rattle.promises.specs.Answers.{told};
+ghost use Rattle.editing.specs.Steps.{kindOf};
+ghost use Rattle.frames.specs.Frames as f;
+ghost use Rattle.frames.specs.Machine as m;
+use answer_lines::put_answer;
+use answer_lines::put_order;
+use answer_lines::put_refusal;
+use edit_calls::edit;
+use frames::State;
+use matching::Answer;
+use matching::OrderAnswer;
+use matching::load;
+use matching::order;
+
+// The places of the counts and of the words, and how long the lent memory is at least.
+pub const LINKS_IN: usize = 3;
+
+pub const VALUES_IN: usize = 16;
+
+pub const SAMPLES_IN: usize = 32;
+
+// What an accepted state or node prints.
+pub const NOTHING: usize = 0;
+
+// Keeps a state.
+pub fn state_line(counts: &mut [u32], words: &mut [u16], state: State, out: &mut [u8]) -> usize
+    requires { ⌜ (m.countsSize ≤ length (now counts)) × (m.wordsSize ≤ length (now words)) × (5 ≤ length (now out)) ⌝ }
+    ensures { λ r. ⌜ ((s : List ℕ) → (c : List ℤ) → m.Before (f.state (state .mask) (state .value) (state .links)) (m.memory (now (counts .entry)) (now (words .entry)) s c (now (out .entry))) r (m.memory (now (counts .exit)) (now (words .exit)) s c (now (out .exit)))) ⌝ }
+{
+    let n = counts[1] as usize;
+    if session::MAX_STATES <= n {
+        return put_refusal(out, 0, 4);
+    }
+    counts[LINKS_IN + n] = state.links;
+    counts[1] = (n + 1) as u32;
+    words[n] = state.mask;
+    words[VALUES_IN + n] = state.value;
+    NOTHING
+}
+
+// Keeps a node.
+pub fn node_line(counts: &mut [u32], words: &mut [u16], sample: u16, out: &mut [u8]) -> usize
+    requires { ⌜ (m.countsSize ≤ length (now counts)) × (m.wordsSize ≤ length (now words)) × (5 ≤ length (now out)) ⌝ }
+    ensures { λ r. ⌜ ((s : List ℕ) → (c : List ℤ) → m.Before (f.node sample) (m.memory (now (counts .entry)) (now (words .entry)) s c (now (out .entry))) r (m.memory (now (counts .exit)) (now (words .exit)) s c (now (out .exit)))) ⌝ }
+{
+    let n = counts[2] as usize;
+    if session::MAX_NODES <= n {
+        return put_refusal(out, 0, 6);
+    }
+    counts[2] = (n + 1) as u32;
+    words[SAMPLES_IN + n] = sample;
+    NOTHING
+}
+
+// The moment after a run.
+pub fn move_on(counts: &mut [u32], answer: Answer)
+    requires { ⌜ 0 < length (now counts) ⌝ }
+    ensures { λ r. ⌜ now (counts .exit) ≡ m.moved (told answer) (now (counts .entry)) ⌝ }
+{
+    match answer {
+        Answer::Accepted(_) => {
+            counts[0] = 1;
+        }
+        Answer::Refused(_) => {}
+    }
+}
+
+// Loads what was read so far.
+pub fn run_line(
+    counts: &mut [u32],
+    words: &[u16],
+    session: &mut [u32],
+    changes: &mut [i32],
+    out: &mut [u8],
+) -> usize
+    requires { ⌜ (m.countsSize ≤ length (now counts)) × (m.wordsSize ≤ length (now words)) × (m.outputSize ≤ length (now out)) × (getD (now counts) 1 0 ≤ maxStates) × (getD (now counts) 2 0 ≤ maxNodes) ⌝ }
+    ensures { λ r. ⌜ m.Ran (m.memory (now (counts .entry)) (now (words .entry)) (now (session .entry)) (now (changes .entry)) (now (out .entry))) r (m.memory (now (counts .exit)) (now (words .entry)) (now (session .exit)) (now (changes .exit)) (now (out .exit))) ⌝ }
+{
+    let states = counts[1] as usize;
+    let nodes = counts[2] as usize;
+    let values_end = VALUES_IN + states;
+    let links_end = LINKS_IN + states;
+    let samples_end = SAMPLES_IN + nodes;
+    let answer = load(
+        session,
+        &words[0..states],
+        &words[VALUES_IN..values_end],
+        &counts[LINKS_IN..links_end],
+        &words[SAMPLES_IN..samples_end],
+        &counts[0..0],
+        &counts[0..0],
+        changes,
+    );
+    move_on(counts, answer);
+    put_answer(out, answer, changes)
+}
+
+// Inserts or deletes an edge.
+pub fn edit_line(
+    session: &mut [u32],
+    changes: &mut [i32],
+    inserts: bool,
+    start: u32,
+    end: u32,
+    out: &mut [u8],
+) -> usize
+    requires { ⌜ m.outputSize ≤ length (now out) ⌝ }
+    ensures { λ r. ⌜ ((counts : List ℕ) → (words : List ℕ) → m.Changed (kindOf inserts) start end (m.memory counts words (now (session .entry)) (now (changes .entry)) (now (out .entry))) r (m.memory counts words (now (session .exit)) (now (changes .exit)) (now (out .exit)))) ⌝ }
+{
+    let answer = edit(session, inserts, start, end, changes);
+    put_answer(out, answer, changes)
+}
+
+// Writes the depth-first order.
+pub fn walk_line(session: &[u32], out: &mut [u8]) -> usize
+    requires { ⌜ m.outputSize ≤ length (now out) ⌝ }
+    ensures { λ r. ⌜ ((counts : List ℕ) → (words : List ℕ) → (c : List ℤ) → m.Walked (m.memory counts words (now (session .entry)) c (now (out .entry))) r (m.memory counts words (now (session .entry)) c (now (out .exit)))) ⌝ }
+{
+    let walk = order(session);
+    let answer = walk.answer;
+    let states = walk.states;
+    match answer {
+        OrderAnswer::Listed(n) => put_order(out, 0, &states[..n as usize]),
+        OrderAnswer::Refused(n) => put_refusal(out, 0, n),
+    }
+}

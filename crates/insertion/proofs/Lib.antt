@@ -1,0 +1,3 @@
+-- insertion: laws.
+pub mod Inserted
+pub mod Inserting

@@ -1,0 +1,3 @@
+-- layout_test: laws.
+pub mod Admission
+pub mod Tested

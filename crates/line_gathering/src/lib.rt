@@ -1,0 +1,51 @@
+// A line is gathered byte by byte. A line longer than any frame is no frame whatever follows, so no more than its front is kept.
+ghost use lib.ListN.{drop};
+ghost use Rattle.frames.specs.Lines as l;
+
+// One byte more than the longest frame has.
+pub const KEPT: usize = 15;
+
+// Where the block is read next, how long the front is then, and whether it is a whole line.
+pub struct Gathered {
+    pub at: usize,
+    pub used: usize,
+    pub ended: bool,
+}
+
+// Puts a byte after the front, if there is room for it; how long the front is then.
+pub fn push(front: &mut [u8], used: usize, byte: u8) -> usize
+    ensures { λ r. ⌜ l.Pushed (now (front .entry)) used byte (now (front .exit)) r ⌝ }
+{
+    if used < front.len() {
+        front[used] = byte;
+        used + 1
+    } else {
+        used
+    }
+}
+
+// Takes bytes of the block from the place `at` on, until a line ended or the block is over.
+pub fn gather(front: &mut [u8], used: usize, block: &[u8], at: usize) -> Gathered
+    ensures { λ r. ⌜ l.Gathers (now (front .entry)) used (drop at (now (block .entry)))
+        (now (front .exit)) (r .used) (drop (r .at) (now (block .entry))) (r .ended) ⌝ }
+{
+    let mut next = at;
+    let mut len = used;
+    while next < block.len() {
+        let byte = block[next];
+        next += 1;
+        if byte == 10 {
+            return Gathered {
+                at: next,
+                used: len,
+                ended: true,
+            };
+        }
+        len = push(front, len, byte);
+    }
+    Gathered {
+        at: next,
+        used: len,
+        ended: false,
+    }
+}

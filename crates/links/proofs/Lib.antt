@@ -1,0 +1,3 @@
+-- links: laws.
+pub mod CallerTables
+pub mod LinkSets

@@ -1,0 +1,2 @@
+-- links: definitions.
+pub mod Links

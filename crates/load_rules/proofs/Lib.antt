@@ -1,0 +1,2 @@
+-- load_rules: laws.
+pub mod Given

@@ -1,0 +1,4 @@
+-- loading: laws.
+pub mod Finished
+pub mod Sections
+pub mod Solving

@@ -1,0 +1,2 @@
+-- loading: definitions.
+pub mod Solved

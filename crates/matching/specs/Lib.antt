@@ -1,2 +1,0 @@
--- What the steps of a load leave.
-pub mod Solved

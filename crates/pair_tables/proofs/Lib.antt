@@ -1,0 +1,4 @@
+-- pair_tables: laws.
+pub mod Admitting
+pub mod Tabling
+pub mod Zeros

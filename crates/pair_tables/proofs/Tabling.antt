@@ -1,0 +1,135 @@
+-- Loops over a table or a set: a set that gains what passes a test, a table changed word by word, the pairs counted node by node.
+use Prim.Native.Nat.{ℕ, zero, suc, _+_, _*_, _/_, _%_, _^_, _<_, _≤_, zero-le}
+use native.Mathlib.Numerals.{add-one}
+use native.Mathlib.Omega.{arith}
+use mathlib.Core.Path.{_≡_, refl, sym, ap, ap₂, _∙_}
+use mathlib.Core.Logic.{⊎-elim}
+use mathlib.Core.Bool.{Bool, true, false, cond}
+use mathlib.Core.List.{List}
+use lib.Arith.{digits-mod, digits-div}
+use lib.Bits.{bitAnd, bitXor}
+use lib.Dec.{ltb, eqb}
+use lib.ListN.{length, getD, set, length-set, List·getD-eq-default}
+use lib.Seq.{getD-set-same, getD-set-other}
+use borrow.Author.Tests.{ltb-false, le-ltb, eqb-true, eqb-false, eq-eqb, ne-eqb}
+use Rattle.simulation.specs.Sets.{Set, count}
+use Rattle.simulation.proofs.Sets.{split, count-le}
+use Rattle.simulation.proofs.Loops.{count-same, total, count-rows}
+use Rattle.bits.specs.Word.{members}
+use Rattle.bits.proofs.Words.{zero-members}
+use Rattle.bits.proofs.Counts.{count-beyond}
+use Rattle.session.specs.Trigger.{agrees}
+use Rattle.pair_tables.specs.Tables.{marked}
+use Rattle.simulation.proofs.Gains.{more-here, more-other}
+use Rattle.pair_tables.proofs.Admitting.{agrees-test}
+
+module _ (masks values : List ℕ) (sample : ℕ) where
+  abbrev pub admitting : Set
+  admitting u = agrees 16 (getD masks u 0) (getD values u 0) sample
+
+  module _ (u : ℕ) (small : getD masks u 0 < 2 ^ 16) where
+    abbrev tested : ℕ
+    tested = bitAnd (bitXor (getD values u 0) sample) (getD masks u 0)
+
+    pub admitting-yes : bitAnd (bitXor (getD values u 0) sample) (getD masks u 0) ≡ 0 → admitting u ≡ true
+    admitting-yes e = sym (agrees-test (getD masks u 0) (getD values u 0) sample small) ∙ eq-eqb tested 0 e
+
+    pub admitting-no : (bitAnd (bitXor (getD values u 0) sample) (getD masks u 0) ≡ 0 → ⊥) → admitting u ≡ false
+    admitting-no e = sym (agrees-test (getD masks u 0) (getD values u 0) sample small) ∙ ne-eqb tested 0 e
+
+-- ---- the words below k are changed: each pair by its mark in either table
+
+-- `ts` with its words below k changed is `ts'`
+pub record Changed (op : Bool → Bool → Bool) (ts os ts' : List ℕ) (k : ℕ) : Type 0 where
+  pub long : length ts' ≡ length ts
+  pub words : (u v : ℕ) → marked ts' u v ≡ cond (ltb v k) (op (marked ts u v) (marked os u v)) (marked ts u v)
+
+module _ (op : Bool → Bool → Bool) (ts os : List ℕ) where
+  pub changed-start : Changed op ts os ts 0
+  changed-start = record { long = refl; words = λ u v. sym (rw (le-ltb v 0 zero-le) refl) }
+
+  module _ {ts' : List ℕ} {k : ℕ} (c : Changed op ts os ts' k) where
+    pub changed-step : (x : ℕ) → k < length ts' → members x ≡ (λ u. op (marked ts' u k) (marked os u k)) → Changed op ts os (set ts' k x) (k + 1)
+    changed-step x l e =
+        record {
+          long = length-set ts' k x ∙ c .long;
+          words = λ u v. ⊎-elim (λ (t : eqb v k ≡ true). here u v t) (λ (t : eqb v k ≡ false). away u v t) (split (eqb v k));
+        }
+      where
+        still : (u : ℕ) → marked ts' u k ≡ marked ts u k
+        still u = c .words u k ∙ rw (le-ltb k k (omega arith)) refl
+
+        here : (u v : ℕ) → eqb v k ≡ true
+            → marked (set ts' k x) u v ≡ cond (ltb v (k + 1)) (op (marked ts u v) (marked os u v)) (marked ts u v)
+        here u v t =
+            rw (eqb-true v k t, more-here k, getD-set-same ts' k x 0 l)
+            (ap (λ (X : Set). X u) e ∙ ap (λ (b : Bool). op b (marked os u k)) (still u))
+
+        away : (u v : ℕ) → eqb v k ≡ false
+            → marked (set ts' k x) u v ≡ cond (ltb v (k + 1)) (op (marked ts u v) (marked os u v)) (marked ts u v)
+        away u v t = rw (getD-set-other ts' k v x 0 (eqb-false v k t), more-other v k (eqb-false v k t)) (c .words u v)
+
+    -- all words are changed; past the end neither table has a pair
+    pub changed-end : op false false ≡ false → length os ≡ length ts → length ts' ≤ k → (length ts' ≡ length ts)
+        × ((u v : ℕ) → marked ts' u v ≡ op (marked ts u v) (marked os u v))
+    changed-end off same l = (c .long, λ u v. c .words u v ∙ ⊎-elim (λ (t : ltb v k ≡ true). rw t refl) (λ (t : ltb v k ≡ false). rest u v t) (split (ltb v k)))
+      where
+        unmarked : (xs : List ℕ) (u v : ℕ) → length xs ≤ v → marked xs u v ≡ false
+        unmarked xs u v h = ap (λ (x : ℕ). members x u) (List·getD-eq-default xs 0 h) ∙ zero-members u
+
+        rest : (u v : ℕ) → ltb v k ≡ false
+            → cond (ltb v k) (op (marked ts u v) (marked os u v)) (marked ts u v) ≡ op (marked ts u v) (marked os u v)
+        rest u v t =
+            let h = ltb-false v k t in
+            rw (t, unmarked ts u v (omega (arith, c .long)), unmarked os u v (omega (arith, c .long))) (sym off)
+
+-- ---- the pairs at the nodes below v
+
+module _ (ts : List ℕ) (n : ℕ) where
+  abbrev pub pairsTo : ℕ → ℕ
+  pairsTo v = count (v * n) (λ p. marked ts (p % n) (p / n))
+
+  pub pairs-none : 0 ≡ pairsTo 0
+  unfolding count total
+  pairs-none = sym (count-rows n 0 (λ p. marked ts (p % n) (p / n)))
+
+  module _ (few : n ≤ 16) (inside : (u v : ℕ) → marked ts u v ≡ true → u < n) (v : ℕ) where
+    row : count 32 (members (getD ts v 0)) ≡ count n (members (getD ts v 0))
+    row = count-beyond n 32 (members (getD ts v 0)) (λ u m. inside u v m) (omega arith)
+
+    pub row-few : count 32 (members (getD ts v 0)) ≤ 16
+    row-few = omega (arith, row, count-le n (members (getD ts v 0)))
+
+    pub pairs-more : pairsTo (v + 1) ≡ pairsTo v + count 32 (members (getD ts v 0))
+    unfolding total
+    pairs-more =
+        let X : Set = λ p. marked ts (p % n) (p / n) in
+        let here : count n (λ u. X (v * n + u)) ≡ count n (members (getD ts v 0)) =
+        count-same n (λ u. X (v * n + u)) (members (getD ts v 0)) (λ u l. ap₂ (marked ts) (digits-mod v l) (digits-div v l)) in
+        let all : count (suc v * n) X ≡ count n (λ u. X (v * n + u)) + total v (λ w. count n (λ u. X (w * n + u))) = count-rows n (suc v) X in
+        let before : count (v * n) X ≡ total v (λ w. count n (λ u. X (w * n + u))) = count-rows n v X in
+        rw (add-one v) (omega (arith, all, before, here, row))
+
+  -- one word alone: its pairs are all
+  module _ (few : n ≤ 16) (inside : (u v : ℕ) → marked ts u v ≡ true → u < n) (a : ℕ) (alone : (v : ℕ) → (v ≡ a → ⊥) → getD ts v 0 ≡ 0) where
+    no-member : count 32 (members 0) ≡ 0
+    unfolding count
+    no-member = refl
+
+    idle : (v : ℕ) → (v ≡ a → ⊥) → pairsTo (v + 1) ≡ pairsTo v
+    idle v ne =
+        let no-pair : count 32 (members (getD ts v 0)) ≡ 0 = ap (λ (w : ℕ). count 32 (members w)) (alone v ne) ∙ no-member in
+        omega (arith, pairs-more few inside v, no-pair)
+
+    up-to : (k : ℕ) → k ≤ a → pairsTo k ≡ 0
+    up-to zero l = sym pairs-none
+    up-to (suc k) l = ap pairsTo (sym (add-one k)) ∙ idle k (λ e. omega (arith, l, e)) ∙ up-to k (omega (arith, l))
+
+    pub pairs-single : (k : ℕ) → a < k → pairsTo k ≡ count 32 (members (getD ts a 0))
+    pairs-single zero l = absurd (omega (arith, l))
+    pairs-single (suc k) l =
+        ap pairsTo (sym (add-one k))
+        ∙ ⊎-elim
+        (λ (e : eqb k a ≡ true). rw (eqb-true k a e) (omega (arith, pairs-more few inside a, up-to a (omega arith))))
+        (λ (e : eqb k a ≡ false). let ne = eqb-false k a e in idle k ne ∙ pairs-single k (omega (arith, l, ne)))
+        (split (eqb k a))

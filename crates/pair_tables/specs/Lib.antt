@@ -1,0 +1,2 @@
+-- pair_tables: definitions.
+pub mod Tables

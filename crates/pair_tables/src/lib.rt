@@ -1,0 +1,99 @@
+// Tables of pairs, a word of states for each node: those that are admitted, tables put together and taken away, pairs counted.
+ghost use mathlib.Core.Path.{_≡_};
+ghost use mathlib.Core.Bool.{true, not, _&&_, _||_};
+ghost use Prim.Native.Nat.{ℕ, _^_, _<_, _≤_, _*_, _/_, _%_};
+ghost use lib.ListN.{length, getD};
+ghost use Rattle.session.specs.Limits.{maxNodes, maxStates, wordBits};
+ghost use Rattle.session.specs.Layout.{below};
+ghost use Rattle.pair_tables.specs.Tables.{Admits, Admitted};
+ghost use lib.Dec.{ltb};
+ghost use Rattle.simulation.specs.Sets.{count};
+ghost use Rattle.bits.specs.Word.{members};
+ghost use Rattle.session.specs.Trigger.{agrees};
+ghost use Rattle.pair_tables.specs.Tables.{marked};
+
+// Puts a state into the words of the nodes that it admits; how many they are. Each word is stored, so there is no branch.
+pub fn admit(samples: &[u32], mask: u32, value: u32, u: u32, table: &mut [u32]) -> u32
+    requires { ⌜ (mask < 2 ^ wordBits) × (u < 32) × (length (now samples) ≤ length (now table)) × (length (now samples) ≤ maxNodes) ⌝ }
+    ensures { λ r. ⌜ Admits (now (samples .entry)) mask value u (now (table .entry)) r (now (table .exit)) ⌝ }
+{
+    let bit = bits::only(u);
+    let mut count = 0;
+    let mut v = 0;
+    while v < samples.len() {
+        let hit = (value ^ samples[v]) & mask == 0;
+        table[v] = table[v] | bits::picked(bit, hit);
+        count += bits::picked(1, hit);
+        v += 1;
+    }
+    count
+}
+
+// Fills a table that is zero with the admitted pairs; how many they are.
+pub fn admitted(masks: &[u32], values: &[u32], samples: &[u32], table: &mut [u32]) -> u32
+    requires { ⌜ (length (now values) ≡ length (now masks)) × (length (now masks) ≤ maxStates) × (length (now samples) ≤ maxNodes) × (length (now table) ≡ maxNodes) ⌝ }
+    requires { ⌜ (below (2 ^ wordBits) (now masks) ≡ true) × ((v : ℕ) → getD (now table) v 0 ≡ 0) ⌝ }
+    ensures { λ r. ⌜ Admitted (now (masks .entry)) (now (values .entry)) (now (samples .entry)) r (now (table .exit)) ⌝ }
+{
+    let mut count = 0;
+    let mut u = 0;
+    while u < masks.len() {
+        count += admit(samples, masks[u], values[u], u as u32, table);
+        u += 1;
+    }
+    count
+}
+
+// The states that admit a sample.
+pub fn admitted_at(masks: &[u32], values: &[u32], sample: u32) -> u32
+    requires { ⌜ (length (now values) ≡ length (now masks)) × (length (now masks) ≤ maxStates) × (below (2 ^ wordBits) (now masks) ≡ true) ⌝ }
+    ensures { λ r. ⌜ members r ≡ (λ u. ltb u (length (now (masks .entry))) && agrees wordBits (getD (now (masks .entry)) u 0) (getD (now (values .entry)) u 0) sample) ⌝ }
+{
+    let mut all = 0;
+    let mut u = 0;
+    while u < masks.len() {
+        if (values[u] ^ sample) & masks[u] == 0 {
+            all = bits::added(all, u as u32);
+        }
+        u += 1;
+    }
+    all
+}
+
+// Takes the pairs of another table out.
+pub fn take_away(table: &mut [u32], other: &[u32])
+    requires { ⌜ length (now other) ≡ length (now table) ⌝ }
+    ensures { λ r. ⌜ (length (now (table .exit)) ≡ length (now (table .entry))) × ((u v : ℕ) → marked (now (table .exit)) u v ≡ (marked (now (table .entry)) u v && not (marked (now (other .entry)) u v))) ⌝ }
+{
+    let mut v = 0;
+    while v < table.len() {
+        table[v] = bits::difference(table[v], other[v]);
+        v += 1;
+    }
+}
+
+// Puts the pairs of another table in.
+pub fn put_together(table: &mut [u32], other: &[u32])
+    requires { ⌜ length (now other) ≡ length (now table) ⌝ }
+    ensures { λ r. ⌜ (length (now (table .exit)) ≡ length (now (table .entry))) × ((u v : ℕ) → marked (now (table .exit)) u v ≡ (marked (now (table .entry)) u v || marked (now (other .entry)) u v)) ⌝ }
+{
+    let mut v = 0;
+    while v < table.len() {
+        table[v] = bits::united(table[v], other[v]);
+        v += 1;
+    }
+}
+
+// How many pairs a table has, of this many states and nodes.
+pub fn pairs_in(table: &[u32], states: u32, nodes: usize) -> u32
+    requires { ⌜ (states ≤ maxStates) × (nodes ≤ maxNodes) × (nodes ≤ length (now table)) × ((u v : ℕ) → marked (now table) u v ≡ true → u < states) ⌝ }
+    ensures { λ r. ⌜ r ≡ count (nodes * states) (λ p. marked (now (table .entry)) (p % states) (p / states)) ⌝ }
+{
+    let mut count = 0;
+    let mut v = 0;
+    while v < nodes {
+        count += bits::size(table[v]);
+        v += 1;
+    }
+    count
+}

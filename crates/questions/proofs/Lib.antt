@@ -1,0 +1,2 @@
+-- questions: laws.
+pub mod Asked

@@ -1,0 +1,2 @@
+-- section_tests: laws.
+pub mod Named

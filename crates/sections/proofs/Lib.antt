@@ -1,0 +1,2 @@
+-- sections: laws.
+pub mod Fills

@@ -1,0 +1,111 @@
+// Sections of a session filled: words, half words or edges, and zeros after them.
+ghost use mathlib.Core.Path.{_≡_};
+ghost use mathlib.Core.Bool.{true};
+ghost use mathlib.Core.List.{[]};
+ghost use Prim.Native.Nat.{_^_};
+ghost use lib.ListN.{length};
+ghost use Rattle.session.specs.Limits.{maxNodes, wordBits};
+ghost use Rattle.session.specs.Layout.{section, below};
+ghost use Rattle.session.specs.Tests.{numbered};
+
+// The words of a source go to places that are as many.
+pub fn copy_words(place: &mut [u32], source: &[u32])
+    requires { ⌜ length (now source) ≡ length (now place) ⌝ }
+    ensures { λ r. ⌜ now (place .exit) ≡ now (source .entry) ⌝ }
+{
+    let mut i = 0;
+    while i < place.len() {
+        place[i] = source[i];
+        i += 1;
+    }
+}
+
+// Every place becomes zero.
+pub fn clear(place: &mut [u32])
+    ensures { λ r. ⌜ now (place .exit) ≡ section (length (now (place .entry))) [] ⌝ }
+{
+    let mut i = 0;
+    while i < place.len() {
+        place[i] = 0;
+        i += 1;
+    }
+}
+
+// A section is filled with words, and zeros after them: two loops without a test, each of which compiles to one copy.
+pub fn fill_words(place: &mut [u32], source: &[u32])
+    ensures { λ r. ⌜ now (place .exit) ≡ section (length (now (place .entry))) (now (source .entry)) ⌝ }
+{
+    let used = source.len();
+    let places = place.len();
+    if used < places {
+        copy_words(&mut place[..used], source);
+        clear(&mut place[used..]);
+    } else {
+        copy_words(place, &source[..places]);
+    }
+}
+
+// The same of words of half the width.
+pub fn copy_halves(place: &mut [u32], source: &[u16])
+    requires { ⌜ length (now source) ≡ length (now place) ⌝ }
+    ensures { λ r. ⌜ now (place .exit) ≡ now (source .entry) ⌝ }
+{
+    let mut i = 0;
+    while i < place.len() {
+        place[i] = source[i] as u32;
+        i += 1;
+    }
+}
+
+pub fn fill_halves(place: &mut [u32], source: &[u16])
+    ensures { λ r. ⌜ now (place .exit) ≡ section (length (now (place .entry))) (now (source .entry)) ⌝ }
+{
+    let used = source.len();
+    let places = place.len();
+    if used < places {
+        copy_halves(&mut place[..used], source);
+        clear(&mut place[used..]);
+    } else {
+        copy_halves(place, &source[..places]);
+    }
+}
+
+// The same of the numbers of edges.
+pub fn copy_edges(place: &mut [u32], starts: &[u32], ends: &[u32])
+    requires { ⌜ (below maxNodes (now starts) ≡ true) × (below maxNodes (now ends) ≡ true) ⌝ }
+    requires { ⌜ (length (now ends) ≡ length (now starts)) × (length (now starts) ≡ length (now place)) ⌝ }
+    ensures { λ r. ⌜ now (place .exit) ≡ numbered (now (starts .entry)) (now (ends .entry)) ⌝ }
+{
+    let mut i = 0;
+    while i < place.len() {
+        place[i] = starts[i] * session::EDGE_BASE + ends[i];
+        i += 1;
+    }
+}
+
+pub fn fill_edges(place: &mut [u32], starts: &[u32], ends: &[u32])
+    requires { ⌜ (below maxNodes (now starts) ≡ true) × (below maxNodes (now ends) ≡ true) ⌝ }
+    requires { ⌜ length (now ends) ≡ length (now starts) ⌝ }
+    ensures { λ r. ⌜ now (place .exit) ≡ section (length (now (place .entry))) (numbered (now (starts .entry)) (now (ends .entry))) ⌝ }
+{
+    let used = starts.len();
+    let places = place.len();
+    if used < places {
+        copy_edges(&mut place[..used], starts, ends);
+        clear(&mut place[used..]);
+    } else {
+        copy_edges(place, &starts[..places], &ends[..places]);
+    }
+}
+
+// Small words go to places of half the width that are as many.
+pub fn narrow(place: &mut [u16], source: &[u32])
+    requires { ⌜ (length (now source) ≡ length (now place)) × (below (2 ^ wordBits) (now source) ≡ true) ⌝ }
+    ensures { λ r. ⌜ now (place .exit) ≡ now (source .entry) ⌝ }
+{
+    let mut i = 0;
+    while i < place.len() {
+        place[i] = source[i] as u16;
+        i += 1;
+    }
+}

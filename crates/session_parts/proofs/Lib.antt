@@ -1,0 +1,2 @@
+-- session_parts: laws.
+pub mod Parts

@@ -1,0 +1,91 @@
+-- The parts of a session in layout are what it holds: sections, and marks.
+use Prim.Native.Nat.{ℕ, _+_, _-_, _<_, _≤_}
+use native.Mathlib.Omega.{arith}
+use mathlib.Core.Path.{_≡_, sym, _∙_, ap, fun-ext}
+use mathlib.Core.Logic.{⊎-elim}
+use mathlib.Core.Bool.{true, _&&_}
+use mathlib.Core.List.{List}
+use lib.Dec.{ltb}
+use lib.ListN.{length, getD, take, drop, length-take, length-drop, List·getD-eq-default}
+use lib.Seq.{getD-take, getD-drop}
+use borrow.Author.Tests.{lt-ltb}
+use Rattle.simulation.proofs.Sets.{same, refuted, and-make, and-r}
+use Rattle.simulation.proofs.Search.{lt-or-le}
+use Rattle.bits.specs.Word.{members}
+use Rattle.bits.proofs.Words.{word-members, zero-members}
+use Rattle.session.specs.Trigger.{Trigger, Graph, states, nodes}
+use Rattle.session.specs.Layout.{table, section, markWord, triggerOf, graphOf, marksOf, inLayout}
+use Rattle.session.proofs.Tables.{table-of}
+use Rattle.session.proofs.Decoded.{LayoutFacts, layout-facts, layout-limits, layout-whole}
+use Rattle.session.proofs.Image.{mark-word}
+use Rattle.pair_tables.specs.Tables.{marked}
+
+-- the part that begins at p and has k words
+pub part-is : (xs : List ℕ) (p k : ℕ) → take (p + k - p) (drop p xs) ≡ take k (drop p xs)
+part-is xs p k = let e : p + k - p ≡ k = omega arith in ap (λ (x : ℕ). take x (drop p xs)) e
+
+module _ (xs : List ℕ) (h : inLayout xs ≡ true) where
+  abbrev facts : LayoutFacts xs
+  facts = layout-facts xs h
+
+  -- the parts of a session are what it holds
+  pub held-masks : take (3 + getD xs 0 0 - 3) (drop 3 xs) ≡ triggerOf xs .masks
+  unfolding triggerOf
+  held-masks = part-is xs 3 (getD xs 0 0)
+
+  pub held-values : take (19 + getD xs 0 0 - 19) (drop 19 xs) ≡ triggerOf xs .values
+  unfolding triggerOf
+  held-values = part-is xs 19 (getD xs 0 0)
+
+  pub held-links : take (35 + getD xs 0 0 - 35) (drop 35 xs) ≡ triggerOf xs .links
+  unfolding triggerOf
+  held-links = part-is xs 35 (getD xs 0 0)
+
+  pub held-samples : take (51 + getD xs 1 0 - 51) (drop 51 xs) ≡ graphOf xs .samples
+  unfolding graphOf
+  held-samples = part-is xs 51 (getD xs 1 0)
+
+  pub held-edges : take (563 + getD xs 2 0 - 563) (drop 563 xs) ≡ graphOf xs .edges
+  unfolding graphOf
+  held-edges = part-is xs 563 (getD xs 2 0)
+
+  -- the mark words are those of the marks that are held
+  abbrev t : Trigger
+  t = triggerOf xs
+
+  abbrev g : Graph
+  g = graphOf xs
+
+  mark-is : (u v : ℕ) → v < 512 → members (getD xs (2611 + v) 0) u ≡ (ltb u (states t) && (ltb v (nodes g) && marksOf xs u v))
+  unfolding markWord
+  mark-is u v l =
+      ap (λ (ys : List ℕ). members (getD ys (2611 + v) 0) u) (layout-whole xs h)
+      ∙ ap (λ (w : ℕ). members w u) (mark-word t g (marksOf xs) (drop 3123 xs) v l)
+      ∙ word-members (states t) (λ u. ltb v (nodes g) && marksOf xs u v) u
+
+  pub marks-long : length (take 512 (drop 2611 xs)) ≡ 512
+  marks-long = length-take 512 (drop 2611 xs) ∙ omega (arith, length-drop 2611 xs, layout-limits xs h)
+
+  -- a table that is filled with them holds just them
+  pub saved-marks : section 512 (take 512 (drop 2611 xs)) ≡ take 512 (drop 2611 xs)
+  unfolding section
+  saved-marks =
+      let ms = take 512 (drop 2611 xs) in
+      ap (λ (k : ℕ). table k (λ i. getD ms i 0)) (sym marks-long) ∙ table-of ms
+
+  pub held-marks : marked (take 512 (drop 2611 xs)) ≡ marksOf xs
+  held-marks = fun-ext (λ u. fun-ext (λ v. ⊎-elim (near u v) (far u v) (lt-or-le v 512)))
+    where
+      near : (u v : ℕ) → v < 512 → marked (take 512 (drop 2611 xs)) u v ≡ marksOf xs u v
+      near u v l =
+          ap (λ (w : ℕ). members w u) (getD-take 512 (drop 2611 xs) v 0 l ∙ getD-drop 2611 xs v 0)
+          ∙ mark-is u v l
+          ∙ same (ltb u (states t) && (ltb v (nodes g) && marksOf xs u v)) (marksOf xs u v)
+          (λ e. and-r (ltb v (nodes g)) (marksOf xs u v) (and-r (ltb u (states t)) (ltb v (nodes g) && marksOf xs u v) e))
+          (λ e. let i = facts .inside u v e in and-make (lt-ltb u (states t) (i .0)) (and-make (lt-ltb v (nodes g) (i .1)) e))
+
+      far : (u v : ℕ) → 512 ≤ v → marked (take 512 (drop 2611 xs)) u v ≡ marksOf xs u v
+      far u v l =
+          ap (λ (w : ℕ). members w u) (List·getD-eq-default (take 512 (drop 2611 xs)) 0 (omega (arith, length-take 512 (drop 2611 xs))))
+          ∙ zero-members u
+          ∙ sym (refuted (marksOf xs u v) (λ e. absurd (omega (arith, facts .inside u v e .1, facts .graph .few))))

@@ -1,0 +1,2 @@
+-- session_parts: definitions.
+pub mod Inside

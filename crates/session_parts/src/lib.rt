@@ -1,0 +1,65 @@
+// The parts of a session that is in layout, and its marks stored.
+ghost use mathlib.Core.Path.{_≡_};
+ghost use mathlib.Core.Bool.{true};
+ghost use lib.ListN.{take, drop, length};
+ghost use Rattle.session.specs.Limits.{marksAt, maxNodes, fixedSize};
+ghost use Rattle.session.specs.Layout.{triggerOf, graphOf, inLayout, image};
+ghost use mathlib.Core.List.{_++_};
+ghost use Rattle.pair_tables.specs.Tables.{marked};
+ghost use Rattle.session_parts.specs.Inside.{Inside};
+
+pub fn masks_of(session: &[u32]) -> &[u32]
+    requires { ⌜ inLayout (now session) ≡ true ⌝ }
+    ensures { λ r. ⌜ now r ≡ triggerOf (now (session .entry)) .masks ⌝ }
+{
+    let end = session::MASKS_AT + session[0] as usize;
+    &session[session::MASKS_AT..end]
+}
+
+pub fn values_of(session: &[u32]) -> &[u32]
+    requires { ⌜ inLayout (now session) ≡ true ⌝ }
+    ensures { λ r. ⌜ now r ≡ triggerOf (now (session .entry)) .values ⌝ }
+{
+    let end = session::VALUES_AT + session[0] as usize;
+    &session[session::VALUES_AT..end]
+}
+
+pub fn links_of(session: &[u32]) -> &[u32]
+    requires { ⌜ inLayout (now session) ≡ true ⌝ }
+    ensures { λ r. ⌜ now r ≡ triggerOf (now (session .entry)) .links ⌝ }
+{
+    let end = session::LINKS_AT + session[0] as usize;
+    &session[session::LINKS_AT..end]
+}
+
+pub fn samples_of(session: &[u32]) -> &[u32]
+    requires { ⌜ inLayout (now session) ≡ true ⌝ }
+    ensures { λ r. ⌜ now r ≡ graphOf (now (session .entry)) .samples ⌝ }
+{
+    let end = session::SAMPLES_AT + session[1] as usize;
+    &session[session::SAMPLES_AT..end]
+}
+
+pub fn edges_of(session: &[u32]) -> &[u32]
+    requires { ⌜ inLayout (now session) ≡ true ⌝ }
+    ensures { λ r. ⌜ now r ≡ graphOf (now (session .entry)) .edges ⌝ }
+{
+    let end = session::EDGES_AT + session[2] as usize;
+    &session[session::EDGES_AT..end]
+}
+
+// The mark words, a word for each of 512 nodes.
+pub fn marks_of(session: &[u32]) -> &[u32]
+    requires { ⌜ inLayout (now session) ≡ true ⌝ }
+    ensures { λ r. ⌜ now r ≡ take maxNodes (drop marksAt (now (session .entry))) ⌝ }
+{
+    &session[session::MARKS_AT..session::FIXED_SIZE]
+}
+
+// Writes a table to the session as its marks.
+pub fn store_marks(session: &mut [u32], table: &[u32])
+    requires { ⌜ (inLayout (now session) ≡ true) × (length (now table) ≡ maxNodes) × Inside (now session) (now table) ⌝ }
+    ensures { λ r. ⌜ now (session .exit) ≡ image (triggerOf (now (session .entry))) (graphOf (now (session .entry))) (marked (now (table .entry))) ++ drop fixedSize (now (session .entry)) ⌝ }
+{
+    sections::fill_words(&mut session[session::MARKS_AT..session::FIXED_SIZE], table);
+}

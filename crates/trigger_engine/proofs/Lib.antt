@@ -1,4 +1,0 @@
--- The laws of the packing.
-pub mod Unpacked
-pub mod Orders
-pub mod Fitted

@@ -1,2 +1,0 @@
--- How an answer is one number, and what the calls from C promise of it.
-pub mod Packed

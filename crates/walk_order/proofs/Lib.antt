@@ -1,0 +1,2 @@
+-- walk_order: laws.
+pub mod Walks

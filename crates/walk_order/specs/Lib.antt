@@ -1,0 +1,2 @@
+-- walk_order: definitions.
+pub mod Walks

@@ -1,0 +1,154 @@
+-- The predecessors of a node called in: by the index, or by all edges.
+use Prim.Native.Nat.{ℕ, _+_, _-_, _/_, _%_, _<_}
+use native.Mathlib.Numerals.{add-one}
+use mathlib.Core.Path.{_≡_, refl, sym, ap, subst, fun-ext, _∙_}
+use mathlib.Core.Logic.{⊎-elim}
+use mathlib.Core.Bool.{Bool, true, false, _&&_, _||_, or-false}
+use mathlib.Core.List.{List}
+use lib.Dec.{eqb}
+use lib.ListN.{length, getD}
+use borrow.Author.Tests.{eqb-true, eqb-false, eq-eqb, ne-eqb}
+use Rattle.simulation.specs.Sets.{Set, anyBelow, also}
+use Rattle.simulation.proofs.Sets.{clash, split, refuted, and-l, and-r}
+use Rattle.worklist.specs.Waiting.{waits}
+use Rattle.edge_indexes.specs.Indexes.{endsAt, Indexed, precedes}
+use Rattle.edge_indexes.proofs.Incoming.{called, called-all, Chained, chained-head, called-head, chained-next, called-next}
+
+-- ---- the predecessors called in
+
+-- those by the edges that are not left, and that pass the test P, wait
+pub record Calling (es : List ℕ) (P : Set) (v : ℕ) (ws ws' : List ℕ) (n : ℕ) : Type 0 where
+  pub chain : Chained es v n
+  pub waiting : waits ws' ≡ (λ w. waits ws w || (called es v n w && P w))
+
+pub calling-done : {es : List ℕ} {P : Set} {v : ℕ} {ws ws' : List ℕ} → Calling es P v ws ws' 0 → waits ws' ≡ (λ w. waits ws w || (precedes es v w && P w))
+calling-done {es} {P} {v} {ws} y = y .waiting ∙ fun-ext (λ w. ap (λ (b : Bool). waits ws w || (b && P w)) (called-all es v w))
+
+module _ {es heads nexts : List ℕ} (x : Indexed es heads nexts) (P : Set) where
+  pub calling-none : (v : ℕ) (ws : List ℕ) → v < 512 → Calling es P v ws ws (getD heads v 0)
+  calling-none v ws h =
+      record {
+        chain = chained-head x v h;
+        waiting = fun-ext (λ w. sym (ap (λ (b : Bool). waits ws w || (b && P w)) (called-head x v w h) ∙ or-false (waits ws w)));
+      }
+
+  module _ {v n : ℕ} {ws ws' : List ℕ} (y : Calling es P v ws ws' n) (some : n ≡ 0 → ⊥) where
+    abbrev start : ℕ
+    start = getD es (n - 1) 0 / 512
+
+    -- with one edge less left
+    one-more : (w : ℕ) → (waits ws w || (called es v (getD nexts (n - 1) 0) w && P w)) ≡ (waits ws' w || (eqb w start && P w))
+    one-more w =
+        ap (λ (b : Bool). waits ws w || (b && P w)) (called-next x (y .chain) some w)
+        ∙ spread (waits ws w) (called es v n w) (eqb w start) (P w)
+        ∙ ap (λ (X : Set). X w || (eqb w start && P w)) (sym (y .waiting))
+      where
+        spread : (a b c d : Bool) → (a || ((b || c) && d)) ≡ ((a || (b && d)) || (c && d))
+        spread true b c d = refl
+        spread false true c true = refl
+        spread false true true false = refl
+        spread false true false false = refl
+        spread false false c d = refl
+
+    -- the start of the edge passes and is put in, or fails
+    pub calling-more : {ws'' : List ℕ} → P start ≡ true → waits ws'' ≡ also (waits ws') start → Calling es P v ws ws'' (getD nexts (n - 1) 0)
+    calling-more {ws''} pass e =
+        record {
+          chain = chained-next x (y .chain) some;
+          waiting = e ∙ fun-ext (λ w. ap (λ (b : Bool). waits ws' w || b) (here w) ∙ sym (one-more w));
+        }
+      where
+        here : (w : ℕ) → eqb w start ≡ (eqb w start && P w)
+        here w =
+            ⊎-elim
+            (λ (t : eqb w start ≡ true). rw t (rw (eqb-true w start t) (sym pass)))
+            (λ (t : eqb w start ≡ false). rw t refl)
+            (split (eqb w start))
+
+    pub calling-pass : P start ≡ false → Calling es P v ws ws' (getD nexts (n - 1) 0)
+    calling-pass fails =
+        record {
+          chain = chained-next x (y .chain) some;
+          waiting = fun-ext (λ w. sym (one-more w ∙ ap (λ (b : Bool). waits ws' w || b) (none w) ∙ or-false (waits ws' w)));
+        }
+      where
+        none : (w : ℕ) → (eqb w start && P w) ≡ false
+        none w =
+            ⊎-elim
+            (λ (t : eqb w start ≡ true). rw t (rw (eqb-true w start t) fails))
+            (λ (t : eqb w start ≡ false). rw t refl)
+            (split (eqb w start))
+
+-- ---- without an index: those by the first k edges, and that pass the test P, wait
+
+module _ (es : List ℕ) (P : Set) (v : ℕ) where
+  -- w has one of the first k edges, and it leads to v
+  abbrev pub leadsTo : ℕ → Set
+  leadsTo k w = anyBelow k (λ j. endsAt es v j && eqb (getD es j 0 / 512) w)
+
+  pub leads-none : (ws : List ℕ) → waits ws ≡ (λ w. waits ws w || (leadsTo 0 w && P w))
+  unfolding anyBelow
+  leads-none ws = fun-ext (λ w. sym (or-false (waits ws w)))
+
+  pub leads-more : (ws ws' ws'' : List ℕ) (k : ℕ) → waits ws' ≡ (λ w. waits ws w || (leadsTo k w && P w))
+      → waits ws'' ≡ (λ w. waits ws' w || ((endsAt es v k && eqb (getD es k 0 / 512) w) && P w))
+      → waits ws'' ≡ (λ w. waits ws w || (leadsTo (k + 1) w && P w))
+  unfolding anyBelow
+  leads-more ws ws' ws'' k e h =
+      h
+      ∙ fun-ext
+      (λ w.
+      ap (λ (X : Set). X w || ((endsAt es v k && eqb (getD es k 0 / 512) w) && P w)) e
+      ∙ join (waits ws w) (leadsTo k w) (endsAt es v k && eqb (getD es k 0 / 512) w) (P w)
+      ∙ ap (λ (n : ℕ). waits ws w || (leadsTo n w && P w)) (sym (add-one k)))
+    where
+      join : (a b c d : Bool) → ((a || (b && d)) || (c && d)) ≡ (a || ((c || b) && d))
+      join true b c d = refl
+      join false true true true = refl
+      join false true true false = refl
+      join false true false true = refl
+      join false true false false = refl
+      join false false true d = refl
+      join false false false d = refl
+
+  pub leads-all : (w : ℕ) → leadsTo (length es) w ≡ precedes es v w
+  unfolding precedes
+  leads-all w = refl
+
+-- one edge: its start is put in, or nothing is
+module _ (edge v : ℕ) (P : Set) (ws : List ℕ) where
+  abbrev startsHere : Set
+  startsHere w = (eqb (edge % 512) v && eqb (edge / 512) w) && P w
+
+  pub one-in : (ws' : List ℕ) → edge % 512 ≡ v → P (edge / 512) ≡ true → waits ws' ≡ also (waits ws) (edge / 512)
+      → waits ws' ≡ (λ w. waits ws w || startsHere w)
+  one-in ws' at pass e =
+      e
+      ∙ fun-ext
+      (λ w.
+      ap (λ (b : Bool). waits ws w || b)
+      (⊎-elim
+      (λ (t : eqb w (edge / 512) ≡ true).
+      t ∙ sym (rw (eqb-true w (edge / 512) t, eq-eqb (edge % 512) v at, eq-eqb (edge / 512) (edge / 512) refl) pass))
+      (λ (t : eqb w (edge / 512) ≡ false).
+      t
+      ∙ sym
+      (refuted (startsHere w)
+      (λ h.
+      eqb-false w (edge / 512) t
+      (sym (eqb-true (edge / 512) w (and-r (eqb (edge % 512) v) (eqb (edge / 512) w) (and-l (eqb (edge % 512) v && eqb (edge / 512) w) (P w) h)))))))
+      (split (eqb w (edge / 512)))))
+
+  -- it ends elsewhere, or its start fails
+  pub one-out : ((w : ℕ) → startsHere w ≡ false) → waits ws ≡ (λ w. waits ws w || startsHere w)
+  one-out none = fun-ext (λ w. sym (ap (λ (b : Bool). waits ws w || b) (none w) ∙ or-false (waits ws w)))
+
+  pub ends-elsewhere : (edge % 512 ≡ v → ⊥) → (w : ℕ) → startsHere w ≡ false
+  ends-elsewhere ne w = rw (ne-eqb (edge % 512) v ne) refl
+
+  pub start-fails : P (edge / 512) ≡ false → (w : ℕ) → startsHere w ≡ false
+  start-fails fails w =
+      refuted (startsHere w)
+      (λ h.
+      let here = eqb-true (edge / 512) w (and-r (eqb (edge % 512) v) (eqb (edge / 512) w) (and-l (eqb (edge % 512) v && eqb (edge / 512) w) (P w) h)) in
+      clash (and-r (eqb (edge % 512) v && eqb (edge / 512) w) (P w) h) (subst (λ (x : ℕ). P x ≡ false) here fails))

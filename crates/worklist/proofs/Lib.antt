@@ -1,0 +1,4 @@
+-- worklist: laws.
+pub mod CalledIn
+pub mod Occupied
+pub mod Waits

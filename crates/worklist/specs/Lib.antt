@@ -1,0 +1,2 @@
+-- worklist: definitions.
+pub mod Waiting
