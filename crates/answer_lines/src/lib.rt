@@ -10,8 +10,8 @@ ghost use Rattle.frames.specs.Outputs as o;
 use change_lists::begins;
 use change_lists::size_of;
 use digits::put_digits;
-use matching::Answer;
-use matching::changed_part;
+use promises::Answer;
+use reports::changed_part;
 use reports::says;
 
 // Writes one byte.

@@ -21,8 +21,8 @@ use Rattle.promises.proofs.Verdicts.{accepts-or, verdict-pass, Below, verdict-b
 use Rattle.promises.proofs.Loads.{load-trigger, load-graph}
 use Rattle.promises.proofs.Edits.{edited-facts}
 use Rattle.promises.proofs.Demands.{outcome-refused}
-use Rattle.edit_rules.proofs.Ruled.{edit-passed}
-use Rattle.questions.proofs.Asked.{question-passed}
+use Rattle.promises.proofs.Passed.{edit-passed}
+use Rattle.promises.proofs.Passed.{question-passed}
 use Rattle.answer_numbers.specs.Packed.{ruleSpan, Fitting, Fits, unpacked, unpackedYes, unpackedCount, answerNumber, standingNumber, firingNumber, packedYes, Packs, orderRules, OrderWritten}
 use Rattle.answer_numbers.proofs.Unpacked.{unpacked-packed, unpacked-yes, unpacked-count}
 

@@ -6,10 +6,10 @@ ghost use lib.ListN.{length, drop};
 ghost use Rattle.session.specs.Limits.{maxStates};
 ghost use Rattle.session.specs.Layout.{section};
 ghost use Rattle.answer_numbers.specs.Packed as p;
-use matching::Answer;
-use matching::FiringAnswer;
-use matching::OrderAnswer;
-use matching::Standing;
+use promises::Answer;
+use promises::FiringAnswer;
+use promises::OrderAnswer;
+use promises::Standing;
 use reports::says;
 
 // A count has 24 bits; a yes, the trials and the changes begin at bits 8, 16 and 40.

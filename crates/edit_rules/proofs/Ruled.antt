@@ -1,31 +1,20 @@
 -- The rules of an edit, row by row.
 use Prim.Native.Nat.{ℕ, _<_, _≤_}
 use native.Mathlib.Omega.{arith}
-use mathlib.Core.Path.{_≡_, refl, sym, _∙_, ap}
-use mathlib.Core.Logic.{⊎-elim}
+use mathlib.Core.Path.{_≡_, refl, ap}
 use mathlib.Core.Bool.{Bool, true, false, not, _&&_, _||_}
-use mathlib.Core.List.{List, [], _∷_, _++_}
+use mathlib.Core.List.{List, [], _∷_}
 use lib.Dec.{ltb, leb}
 use lib.ListN.{length, getD}
-use borrow.Author.Tests.{ltb-true, ltb-false, lt-ltb, le-leb, lt-leb, not-false}
-use Rattle.simulation.proofs.Sets.{clash, refuted, and-make, and-l, and-r, or-l, or-r, not-make}
+use borrow.Author.Tests.{ltb-true, lt-ltb, le-leb, lt-leb, not-false}
+use Rattle.simulation.proofs.Sets.{refuted, and-make, and-l, and-r, not-make}
 use Rattle.session.specs.Limits.{maxEdges, maxChanges, fixedSize}
 use Rattle.session.specs.Trigger.{nodes, edge}
 use Rattle.session.specs.Layout.{graphOf, inLayout}
 use Rattle.session.proofs.Decoded.{layout-facts}
-use Rattle.promises.specs.Rules.{Rule, rule, verdict, Kind, insertion, deletion, graphRules, editRules}
+use Rattle.promises.specs.Rules.{Rule, rule, verdict, Kind, insertion, deletion, editRules}
 use Rattle.promises.proofs.Verdicts.{Unbroken, verdict-pass, row-passed, row-broken, rows-end, rows-broken, rows-passed}
 use Rattle.editing.specs.Steps.{sharedRules}
-
--- ---- what a verdict of 0 tells
-
-pub edit-passed : (k : Kind) (xs : List ℕ) (room a b : ℕ) → verdict (editRules k xs room a b) ≡ 0
-    → (inLayout xs ≡ true) × (maxChanges ≤ room) × (verdict (graphRules k (graphOf xs) a b) ≡ 0)
-edit-passed k xs room a b z =
-    let first = verdict-pass 3 (ltb (length xs) fixedSize || ltb room maxChanges) (rule 10 (not (inLayout xs)) ∷ graphRules k (graphOf xs) a b) (omega arith) z in
-    let second = verdict-pass 10 (not (inLayout xs)) (graphRules k (graphOf xs) a b) (omega arith) (first .1) in
-    let wide : ltb room maxChanges ≡ false = refuted (ltb room maxChanges) (λ e. clash (or-r (ltb (length xs) fixedSize) e) (first .0)) in
-    (not-false (inLayout xs) (second .0), ltb-false room maxChanges wide, second .1)
 
 module _ (xs : List ℕ) (room a b : ℕ) where
   abbrev short : Bool

@@ -14,10 +14,10 @@ use answer_lines::put_order;
 use answer_lines::put_refusal;
 use edit_calls::edit;
 use frames::State;
-use matching::Answer;
-use matching::OrderAnswer;
-use matching::load;
-use matching::order;
+use loading::load;
+use promises::Answer;
+use promises::OrderAnswer;
+use questions::order;
 
 // The places of the counts and of the words, and how long the lent memory is at least.
 pub const LINKS_IN: usize = 3;

@@ -22,8 +22,8 @@ use Rattle.promises.proofs.Verdicts.{accepts-or}
 use Rattle.promises.proofs.Loads.{load-trigger, load-graph}
 use Rattle.promises.proofs.Edits.{edited-facts}
 use Rattle.promises.proofs.Demands.{outcome-refused}
-use Rattle.edit_rules.proofs.Ruled.{edit-passed}
-use Rattle.questions.proofs.Asked.{question-passed}
+use Rattle.promises.proofs.Passed.{edit-passed}
+use Rattle.promises.proofs.Passed.{question-passed}
 
 reported-few : (t : Trigger) (g : Graph) (m before after : Marks) (trials : ℕ) (c c' : List ℤ) (r : Answer) → states t ≤ maxStates → nodes g ≤ maxNodes
     → Reported t g m trials (changes t g before after) c r c' → length (handedBack c' r) ≤ maxChanges

@@ -5,6 +5,7 @@ pub mod Trials
 pub mod Handed
 pub mod Chains
 pub mod Verdicts
+pub mod Passed
 pub mod Loads
 pub mod Changed
 pub mod Edits

@@ -1,30 +1,26 @@
 -- The questions: the rules row by row, what a verdict of 0 tells, and the answers as the code reads them.
-use Prim.Native.Nat.{ℕ, zero, suc, _+_, _-_, _<_, _≤_}
+use Prim.Native.Nat.{ℕ, zero, suc, _+_, _<_, _≤_}
 use native.Mathlib.Omega.{arith}
 use mathlib.Core.Path.{_≡_, refl, sym, _∙_, ap, ap₂}
-use mathlib.Core.Bool.{Bool, true, false, not, _&&_, cond}
+use mathlib.Core.Bool.{Bool, true, not, _&&_, cond}
 use mathlib.Core.List.{List, [], _∷_, _++_, map}
 use lib.Dec.{ltb, leb, eqb}
-use lib.ListN.{length, getD, take, drop, length-drop}
-use lib.Seq.{getD-drop}
+use lib.ListN.{length, getD}
 use borrow.Author.Tests.{ltb-true, lt-ltb, le-ltb, leb-true, le-leb, ne-eqb, not-false}
-use Rattle.simulation.specs.Sets.{allBelow, anyBelow}
 use Rattle.simulation.specs.Ordered.{elem}
 use Rattle.simulation.proofs.Sets.{refuted, not-make, and-make, and-l, and-r}
-use Rattle.simulation.proofs.Edges.{any-same, all-same}
 use Rattle.bits.specs.Word.{members}
 use Rattle.session.specs.Limits.{fixedSize}
 use Rattle.session.specs.Trigger.{Trigger, states, nodes, linked}
 use Rattle.session.specs.Layout.{triggerOf, graphOf, marksOf, inLayout}
-use Rattle.session.proofs.Decoded.{LayoutFacts, layout-facts, layout-limits}
-use Rattle.pair_tables.specs.Tables.{marked}
+use Rattle.session.proofs.Decoded.{layout-facts, layout-limits}
 use Rattle.listing.specs.Order.{fold, visit, order}
 use Rattle.walk_order.specs.Walks.{linkedBy, rest}
 use Rattle.listing.proofs.Orders.{fold-same}
 use Rattle.promises.specs.Rules.{Rule, rule, verdict, questionRules, pairRules}
 use Rattle.promises.specs.Answers.{accepted, refused, outcome}
-use Rattle.promises.specs.Standing.{fires}
 use Rattle.promises.proofs.Verdicts.{verdict-pass, row-passed, row-broken, rows-end, rows-broken}
+use Rattle.promises.proofs.Passed.{question-passed}
 use Rattle.promises.proofs.Demands.{outcome-refused}
 
 -- ---- the rules
@@ -46,12 +42,6 @@ module _ (xs : List ℕ) (more : List Rule) where
   -- what breaks one of them breaks the same with more rules
   pub question-broken : (n : ℕ) → n ≡ verdict (questionRules xs []) → (n ≡ 0 → ⊥) → n ≡ verdict (questionRules xs more)
   question-broken = rows-broken (questionRules xs []) more
-
-  pub question-passed : verdict (questionRules xs more) ≡ 0 → (inLayout xs ≡ true) × (verdict more ≡ 0)
-  question-passed z =
-      let first = verdict-pass 3 (ltb (length xs) fixedSize) (rule 10 (not (inLayout xs)) ∷ more) (omega arith) z in
-      let second = verdict-pass 10 (not (inLayout xs)) more (omega arith) (first .1) in
-      (not-false (inLayout xs) (second .0), second .1)
 
 pub question-none : (xs : List ℕ) → inLayout xs ≡ true → 0 ≡ verdict (questionRules xs [])
 question-none xs h = question-held xs [] h 0 rows-end

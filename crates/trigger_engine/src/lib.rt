@@ -10,7 +10,7 @@ use answer_numbers::fill_front;
 use answer_numbers::firing_number;
 use answer_numbers::order_number;
 use answer_numbers::standing_number;
-use matching::OrderAnswer;
+use promises::OrderAnswer;
 
 // How many words a session has.
 #[no_mangle]

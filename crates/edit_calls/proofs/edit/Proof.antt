@@ -11,7 +11,7 @@ use Rattle.promises.specs.Answers.{refused}
 use Rattle.promises.specs.Rules.{editRules, verdict}
 use Rattle.reports.proofs.Reported.{reported-same}
 use Rattle.editing.specs.Steps.{kindOf}
-use Rattle.edit_rules.proofs.Ruled.{edit-passed}
+use Rattle.promises.proofs.Passed.{edit-passed}
 use Rattle.edit_calls.proofs.Called.{called-layout, called-carried}
 use borrow.Author.Needs.{needs}
 use Rattle.edit_calls.proofs.edit.Statement.{statement}

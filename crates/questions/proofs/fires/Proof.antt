@@ -6,7 +6,8 @@ use mathlib.Core.Bool.{true}
 use Rattle.session.specs.Layout.{triggerOf, graphOf, marksOf, inLayout}
 use Rattle.session.proofs.Decoded.{Bounded, layout-limits}
 use Rattle.promises.specs.Standing as standing
-use Rattle.questions.proofs.Asked.{question-passed, answer-refused, answer-accepted}
+use Rattle.questions.proofs.Asked.{answer-refused, answer-accepted}
+use Rattle.promises.proofs.Passed.{question-passed}
 use Rattle.reports.proofs.Held.{held-firing}
 use Rattle.questions.proofs.fires.Statement.{statement}
 use Rattle.questions.proofs.fires.Tie as tie

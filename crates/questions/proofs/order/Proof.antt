@@ -9,7 +9,8 @@ use Rattle.session.specs.Layout.{table, section, inLayout}
 use Rattle.session.proofs.Decoded.{Bounded, layout-limits, layout-facts}
 use Rattle.listing.specs.Order.{order}
 use Rattle.walk_order.specs.Walks.{linkedBy}
-use Rattle.questions.proofs.Asked.{question-passed, answer-refused, answer-accepted, none-listed, all-listed, links-long, asked-order}
+use Rattle.questions.proofs.Asked.{answer-refused, answer-accepted, none-listed, all-listed, links-long, asked-order}
+use Rattle.promises.proofs.Passed.{question-passed}
 use Rattle.questions.proofs.order.Statement.{statement}
 use Rattle.questions.proofs.order.Tie as tie
 

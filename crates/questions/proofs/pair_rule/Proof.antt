@@ -5,7 +5,8 @@ use mathlib.Core.Path.{_≡_, sym, _∙_}
 use mathlib.Core.Bool.{true}
 use Rattle.session.specs.Layout.{inLayout}
 use Rattle.session.proofs.Decoded.{layout-limits}
-use Rattle.questions.proofs.Asked.{question-passed, pair-broken, pair-wrong, pair-none}
+use Rattle.questions.proofs.Asked.{pair-broken, pair-wrong, pair-none}
+use Rattle.promises.proofs.Passed.{question-passed}
 use Rattle.questions.proofs.pair_rule.Statement.{statement}
 use Rattle.questions.proofs.pair_rule.Tie as tie
 
