@@ -1,2 +1,2 @@
--- answer_numbers: definitions.
+-- An answer as one number.
 pub mod Packed

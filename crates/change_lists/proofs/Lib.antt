@@ -1,2 +1,2 @@
--- change_lists: laws.
+-- The laws of sign and size.
 pub mod Signs

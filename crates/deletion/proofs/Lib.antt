@@ -1,4 +1,4 @@
--- deletion: laws.
+-- What a deletion leaves.
 pub mod Counting
 pub mod Deleted
 pub mod Deleting

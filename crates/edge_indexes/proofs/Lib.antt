@@ -1,4 +1,4 @@
--- edge_indexes: laws.
+-- The laws of the two indexes.
 pub mod Firsts
 pub mod Incoming
 pub mod Ranges

@@ -1,2 +1,2 @@
--- edge_indexes: definitions.
+-- The indexes of the edges.
 pub mod Indexes

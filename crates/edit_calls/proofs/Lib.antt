@@ -1,2 +1,2 @@
--- edit_calls: laws.
+-- What a call that edits leaves.
 pub mod Called

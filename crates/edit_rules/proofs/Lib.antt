@@ -1,2 +1,2 @@
--- edit_rules: laws.
+-- The rules of an edit row by row.
 pub mod Ruled

@@ -1,4 +1,4 @@
--- The laws of the edits.
+-- The laws that insertion and deletion share.
 pub mod Moved
 pub mod Pairs
 pub mod Refining

@@ -1,2 +1,2 @@
--- frame_steps: laws.
+-- The laws by which a line's step meets its promise.
 pub mod Takes

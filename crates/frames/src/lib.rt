@@ -1,4 +1,4 @@
-// Frames: a line of bytes is read, the machine carries it out, and answers are written as lines.
+// Frames: what a line says and what it is answered is defined in specs/. The types in which a line is read and answered.
 
 // How many bytes of output a line gave, or the rule that the lent memory breaks.
 pub enum Taken {

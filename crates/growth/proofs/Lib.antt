@@ -1,3 +1,3 @@
--- The laws by which the growth and the tables meet their contracts.
+-- The laws of growth.
 pub mod Spreading
 pub mod Growing

@@ -1,4 +1,4 @@
-// The pairs that an inserted edge may cause to stand: a set grown from its seeds, and tables of pairs.
+// The trial set: it is grown from its seeds, node by node, until no pair is missing.
 ghost use mathlib.Core.Path.{_≡_};
 ghost use mathlib.Core.Bool.{true};
 ghost use Prim.Native.Nat.{ℕ, _<_};

@@ -1,3 +1,3 @@
--- insertion: laws.
+-- What an insertion leaves.
 pub mod Inserted
 pub mod Inserting

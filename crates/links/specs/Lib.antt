@@ -1,2 +1,2 @@
--- links: definitions.
+-- Sets of states by their links.
 pub mod Links

@@ -1,2 +1,2 @@
--- load_rules: laws.
+-- The laws of a load's rules.
 pub mod Given

@@ -1,4 +1,4 @@
--- loading: laws.
+-- The laws of a load: its sections written, its marks found.
 pub mod Finished
 pub mod Sections
 pub mod Solving

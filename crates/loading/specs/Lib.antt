@@ -1,2 +1,2 @@
--- loading: definitions.
+-- What the steps of a load leave.
 pub mod Solved

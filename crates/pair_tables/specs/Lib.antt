@@ -1,2 +1,2 @@
--- pair_tables: definitions.
+-- Tables of pairs.
 pub mod Tables

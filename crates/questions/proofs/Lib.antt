@@ -1,2 +1,2 @@
--- questions: laws.
+-- The rules of a question row by row, and what the answers are.
 pub mod Asked

@@ -1,4 +1,4 @@
--- The laws by which the inner loops meet their contracts.
+-- The laws of support, of one look at a node and of refinement; what it is of a trigger and a graph.
 pub mod Support
 pub mod Settling
 pub mod Turns

@@ -1,2 +1,2 @@
--- What the inner loops compute.
+-- What refinement leaves.
 pub mod Refining

@@ -1,4 +1,4 @@
-// The table of admitted pairs, and its refinement from the nodes that wait.
+// Refinement: tentative pairs that the settled and the tentative pairs do not support are cleared, node by node, until none is left.
 ghost use mathlib.Core.Path.{_≡_};
 ghost use mathlib.Core.Bool.{true, not, _&&_};
 ghost use Prim.Native.Nat.{ℕ, _<_, _≤_};

@@ -1,3 +1,3 @@
--- From tables to what a session holds.
+-- What a report reads from a session.
 pub mod Held
 pub mod Reported

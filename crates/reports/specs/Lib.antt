@@ -1,2 +1,2 @@
--- What the tables of a session may hold, and what an answer tells of its marks.
+-- What an answer tells of the marks that a memory holds.
 pub mod Marks

@@ -1,2 +1,2 @@
--- section_tests: laws.
+-- The laws by which the ends of the edges are tested.
 pub mod Named

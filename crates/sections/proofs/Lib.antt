@@ -1,2 +1,2 @@
--- sections: laws.
+-- The laws of a list filled from its front.
 pub mod Fills

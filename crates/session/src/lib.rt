@@ -1,4 +1,4 @@
-// The session in lent memory: its sections filled, and the test of its layout.
+// The session in lent memory: its limits, and the places of its sections. What it holds is defined in specs/.
 
 // The limits, and the places of the sections. An edge is the number start * EDGE_BASE + end.
 pub const MAX_STATES: usize = 16;

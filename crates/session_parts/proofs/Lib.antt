@@ -1,2 +1,2 @@
--- session_parts: laws.
+-- What the parts of a session hold.
 pub mod Parts

@@ -1,2 +1,2 @@
--- session_parts: definitions.
+-- What a table of marks for a session may hold.
 pub mod Inside

@@ -1,3 +1,3 @@
--- trial_pairs: laws.
+-- The laws of the trial set as the code finds it.
 pub mod Lonely
 pub mod Trying

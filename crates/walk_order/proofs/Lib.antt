@@ -1,2 +1,2 @@
--- walk_order: laws.
+-- The laws by which the walk has the depth-first order.
 pub mod Walks

@@ -1,2 +1,2 @@
--- walk_order: definitions.
+-- The depth-first walk as the code has it.
 pub mod Walks

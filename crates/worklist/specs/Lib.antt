@@ -1,2 +1,2 @@
--- worklist: definitions.
+-- The nodes that wait.
 pub mod Waiting

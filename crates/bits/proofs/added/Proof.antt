@@ -1,4 +1,4 @@
--- `bits::added` meets its contract: | with a power of two adds one member.
+-- `added` meets its contract: | with a power of two adds one member.
 use borrow.Author.Needs.{needs}
 use Rattle.bits.proofs.Words.{also-members}
 use Rattle.bits.proofs.added.Statement.{statement}

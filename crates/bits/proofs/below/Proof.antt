@@ -1,4 +1,4 @@
--- `bits::below` meets its contract: 2 to the n, less one, has all the numbers below n.
+-- `below` meets its contract: 2 to the n, less one, has all the numbers below n.
 use Prim.Native.Nat.{_*_, _^_, _%_}
 use borrow.Author.Needs.{needs}
 use native.Mathlib.Nat.{one-mul}

@@ -1,4 +1,4 @@
--- `bits::difference` meets its contract: & with the complement is the difference.
+-- `difference` meets its contract: & with the complement is the difference.
 use borrow.Author.Needs.{needs}
 use Rattle.bits.proofs.Words.{andnot-members}
 use Rattle.bits.proofs.difference.Statement.{statement}

@@ -1,4 +1,4 @@
--- `bits::differing` meets its contract: ^ has the members in which the words differ.
+-- `differing` meets its contract: ^ has the members in which the words differ.
 use Rattle.bits.proofs.Words.{differ-members}
 use Rattle.bits.proofs.differing.Statement.{statement}
 use Rattle.bits.proofs.differing.Tie as tie

@@ -1,4 +1,4 @@
--- `bits::empty` meets its contract: only zero has no member.
+-- `empty` meets its contract: only zero has no member.
 use borrow.Author.Needs.{needs}
 use Rattle.bits.proofs.Tests.{empty-any}
 use Rattle.bits.proofs.empty.Statement.{statement}

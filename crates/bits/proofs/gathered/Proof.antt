@@ -1,4 +1,4 @@
--- `bits::gathered` meets its contract: after k words `all` has the members of these.
+-- `gathered` meets its contract: after k words `all` has the members of these.
 use Prim.Native.Nat.{_-_, _≤_}
 use borrow.Author.Needs.{needs}
 use native.Mathlib.Omega.{arith}

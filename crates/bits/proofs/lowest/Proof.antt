@@ -1,4 +1,4 @@
--- `bits::lowest` meets its contract: the zeros at the word's end are below the lowest member.
+-- `lowest` meets its contract: the zeros at the word's end are below the lowest member.
 use borrow.Author.Needs.{needs}
 use Rattle.bits.proofs.Counts.{trailing-lowest}
 use Rattle.bits.proofs.lowest.Statement.{statement}

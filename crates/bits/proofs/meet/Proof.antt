@@ -1,4 +1,4 @@
--- `bits::meet` meets its contract: a & b is zero where no member is common.
+-- `meet` meets its contract: a & b is zero where no member is common.
 use borrow.Author.Needs.{needs}
 use Rattle.bits.proofs.Tests.{meets-test}
 use Rattle.bits.proofs.meet.Statement.{statement}

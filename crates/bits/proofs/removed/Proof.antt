@@ -1,4 +1,4 @@
--- `bits::removed` meets its contract: & with the complement of a power of two takes one member away.
+-- `removed` meets its contract: & with the complement of a power of two takes one member away.
 use borrow.Author.Needs.{needs}
 use Rattle.bits.proofs.Words.{without-members}
 use Rattle.bits.proofs.removed.Statement.{statement}

@@ -1,4 +1,4 @@
--- `bits::size` meets its contract: the digits that are set are the members.
+-- `size` meets its contract: the digits that are set are the members.
 use borrow.Author.Needs.{needs}
 use Rattle.bits.proofs.Counts.{ones-count}
 use Rattle.bits.proofs.size.Statement.{statement}

@@ -1,4 +1,4 @@
--- `bits::subset` meets its contract: a & b is a where each member of a is one of b.
+-- `subset` meets its contract: a & b is a where each member of a is one of b.
 use borrow.Author.Needs.{needs}
 use Rattle.bits.proofs.Tests.{subset-within}
 use Rattle.bits.proofs.subset.Statement.{statement}

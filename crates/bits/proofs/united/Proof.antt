@@ -1,4 +1,4 @@
--- `bits::united` meets its contract: | is the union.
+-- `united` meets its contract: | is the union.
 use Rattle.bits.proofs.Words.{or-members}
 use Rattle.bits.proofs.united.Statement.{statement}
 use Rattle.bits.proofs.united.Tie as tie

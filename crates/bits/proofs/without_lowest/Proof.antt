@@ -1,4 +1,4 @@
--- `bits::without_lowest` meets its contract: & with the word before it takes the lowest member out.
+-- `without_lowest` meets its contract: & with the word before it takes the lowest member out.
 use borrow.Author.Needs.{needs}
 use Rattle.bits.proofs.Counts.{without-lowest}
 use Rattle.bits.proofs.without_lowest.Statement.{statement}

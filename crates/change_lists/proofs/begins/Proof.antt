@@ -1,4 +1,4 @@
--- `listing::changes::begins` meets its contract.
+-- `begins` meets its contract.
 use mathlib.Core.Path.{ap, _∙_}
 use lib.IntN.{pos}
 use lib.Signed.{leZ}

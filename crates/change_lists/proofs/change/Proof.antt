@@ -1,4 +1,4 @@
--- `listing::changes::change` meets its contract.
+-- `change` meets its contract.
 use native.Mathlib.Omega.{arith}
 use borrow.Author.Needs.{needs}
 use mathlib.Core.Path.{sym, ap, _∙_}

@@ -1,4 +1,4 @@
--- `listing::changes::node_changes` meets its contract: the changes of the states that are taken out of `rest` are written.
+-- `node_changes` meets its contract: the changes of the states that are taken out of `rest` are written.
 use Prim.Native.Nat.{_<_}
 use native.Mathlib.Omega.{arith}
 use borrow.Author.Needs.{needs}

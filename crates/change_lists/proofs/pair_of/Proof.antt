@@ -1,4 +1,4 @@
--- `listing::changes::pair_of` meets its contract.
+-- `pair_of` meets its contract.
 use native.Mathlib.Omega.{arith}
 use borrow.Author.Needs.{needs}
 use mathlib.Core.Path.{_≡_, ap, _∙_}

@@ -1,4 +1,4 @@
--- `listing::changes::same_words` meets its contract: nothing is folded in just where the words so far agree.
+-- `same_words` meets its contract: nothing is folded in just where the words so far agree.
 use Prim.Native.Nat.{ℕ, _+_, _-_, _≤_}
 use native.Mathlib.Numerals.{add-one}
 use native.Mathlib.Omega.{arith}

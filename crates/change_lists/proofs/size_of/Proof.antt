@@ -1,4 +1,4 @@
--- `listing::changes::size_of` meets its contract: 0 - change is taken in 64 bits, so that it fits for every number.
+-- `size_of` meets its contract: 0 - change is taken in 64 bits, so that it fits for every number.
 use native.Mathlib.Omega.{arith}
 use borrow.Author.Needs.{needs}
 use mathlib.Core.Path.{sym, ap, subst, _∙_}

@@ -1,4 +1,4 @@
--- `refinement::starts::fill_in` meets its contract: the places before v are filled in, the others as they were.
+-- `fill_in` meets its contract: the places before v are filled in, the others as they were.
 use Prim.Native.Nat.{_-_, _<_}
 use Rattle.edge_indexes.proofs.Firsts.{Filling, filling-none, filled-before, filled-noted, filling-next}
 use borrow.Author.Needs.{needs}

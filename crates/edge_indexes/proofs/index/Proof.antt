@@ -1,4 +1,4 @@
--- `refinement::worklist::index` meets its contract: before edge k the tables are the index of the edges before it.
+-- `index` meets its contract: before edge k the tables are the index of the edges before it.
 use Prim.Native.Nat.{_-_}
 use borrow.Author.Needs.{needs}
 use native.Mathlib.Omega.{arith}

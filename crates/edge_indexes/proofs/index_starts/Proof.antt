@@ -1,4 +1,4 @@
--- `refinement::starts::index_starts` meets its contract: the ends that are noted and filled in are where the next node's edges begin.
+-- `index_starts` meets its contract: the ends that are noted and filled in are where the next node's edges begin.
 use borrow.Author.Needs.{needs}
 use Rattle.edge_indexes.proofs.Firsts.{started}
 use Rattle.edge_indexes.proofs.index_starts.Statement.{statement}

@@ -1,4 +1,4 @@
--- `refinement::starts::note_ends` meets its contract: before edge k the ends of the edges before it are noted.
+-- `note_ends` meets its contract: before edge k the ends of the edges before it are noted.
 use Prim.Native.Nat.{_-_, _<_}
 use borrow.Author.Needs.{needs}
 use native.Mathlib.Omega.{arith}

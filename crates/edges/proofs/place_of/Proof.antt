@@ -1,4 +1,4 @@
--- `session::place_of` meets its contract: the answer stays between low and high.
+-- `place_of` meets its contract: the answer stays between low and high.
 use Prim.Native.Nat.{_+_, _-_, _/_, _<_, _≤_}
 use borrow.Author.Needs.{needs}
 use native.Mathlib.Omega.{arith}

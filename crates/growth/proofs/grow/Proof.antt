@@ -1,4 +1,4 @@
--- `trials::grow::grow` meets its contract: the table stays within the trial set, and each look leaves less to do.
+-- `grow` meets its contract: the table stays within the trial set, and each look leaves less to do.
 use borrow.Author.Needs.{needs}
 use native.Mathlib.Omega.{arith}
 use mathlib.Core.Path.{refl, _∙_}

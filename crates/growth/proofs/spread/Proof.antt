@@ -1,4 +1,4 @@
--- `trials::grow::spread` meets its contract: `next` edges are left, and the predecessors by later edges have been tried.
+-- `spread` meets its contract: `next` edges are left, and the predecessors by later edges have been tried.
 use Prim.Native.Nat.{_-_}
 use borrow.Author.Needs.{needs}
 use native.Mathlib.Omega.{arith}

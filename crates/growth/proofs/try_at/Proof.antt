@@ -1,4 +1,4 @@
--- `trials::grow::try_at` meets its contract: the node gains states and waits, or has them all.
+-- `try_at` meets its contract: the node gains states and waits, or has them all.
 use borrow.Author.Needs.{needs}
 use mathlib.Core.Path.{sym, _∙_}
 use Rattle.growth.proofs.Spreading.{tried-more, tried-none}

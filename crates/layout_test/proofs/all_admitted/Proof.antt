@@ -1,4 +1,4 @@
--- `session::all_admitted` meets its contract: the halves that are compared hold the samples and the marks.
+-- `all_admitted` meets its contract: the halves that are compared hold the samples and the marks.
 use Prim.Native.Nat.{ℕ}
 use borrow.Author.Needs.{needs}
 use native.Mathlib.Omega.{arith}

@@ -1,4 +1,4 @@
--- `session::all_sparse` meets its contract: a fault is noted where a state has a mark that is not admitted.
+-- `all_sparse` meets its contract: a fault is noted where a state has a mark that is not admitted.
 use Prim.Native.Nat.{ℕ, _-_, _^_, _<_}
 use borrow.Author.Needs.{needs}
 use native.Mathlib.Omega.{arith}

@@ -1,4 +1,4 @@
--- `session::graph_fits` meets its contract: each test is made where those before it hold.
+-- `graph_fits` meets its contract: each test is made where those before it hold.
 use Prim.Native.Nat.{_+_, _-_}
 use Rattle.session.specs.Layout.{part, below}
 use Rattle.session.specs.Tests.{allNamed, graphTest}

@@ -1,4 +1,4 @@
--- `session::in_layout` meets its contract: a memory that fails a test is not in layout, and one that passes them all is.
+-- `in_layout` meets its contract: a memory that fails a test is not in layout, and one that passes them all is.
 use Prim.Native.Nat.{ℕ}
 use borrow.Author.Needs.{needs}
 use borrow.Author.Tests.{not-true, not-false}

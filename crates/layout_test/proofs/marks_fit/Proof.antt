@@ -1,4 +1,4 @@
--- `session::marks_fit` meets its contract: the marks are compared with the states where their section fits.
+-- `marks_fit` meets its contract: the marks are compared with the states where their section fits.
 use borrow.Author.Needs.{needs}
 use native.Mathlib.Nat.{add-sub-cancel-left}
 use native.Mathlib.Omega.{arith}

@@ -1,4 +1,4 @@
--- `session::strays` meets its contract: after v nodes `all` has the marks at these that are not admitted.
+-- `strays` meets its contract: after v nodes `all` has the marks at these that are not admitted.
 use Prim.Native.Nat.{ℕ, _-_, _≤_}
 use borrow.Author.Needs.{needs}
 use native.Mathlib.Omega.{arith}

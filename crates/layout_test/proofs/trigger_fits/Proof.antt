@@ -1,4 +1,4 @@
--- `session::trigger_fits` meets its contract: each section is tested where those before it fit.
+-- `trigger_fits` meets its contract: each section is tested where those before it fit.
 use borrow.Author.Needs.{needs}
 use Rattle.session.specs.Tests.{triggerTest}
 use Rattle.layout_test.proofs.trigger_fits.Statement.{statement}

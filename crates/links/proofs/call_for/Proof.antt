@@ -1,4 +1,4 @@
--- `refinement::callers::call_for` meets its contract: the state is in the words of the targets that were taken out of `rest`.
+-- `call_for` meets its contract: the state is in the words of the targets that were taken out of `rest`.
 use Rattle.bits.specs.Word.{members}
 use Rattle.links.proofs.CallerTables.{Calling, calling-start, calling-next, calling-end}
 use Rattle.simulation.proofs.Loops.{without-falls}

@@ -1,4 +1,4 @@
--- `refinement::callers::index_callers` meets its contract: before state u the states below it are in the words of their targets.
+-- `index_callers` meets its contract: before state u the states below it are in the words of their targets.
 use Prim.Native.Nat.{_-_}
 use Rattle.links.proofs.CallerTables.{Called, called-start, called-more, called-end}
 use borrow.Author.Needs.{needs}

@@ -1,4 +1,4 @@
--- `refinement::links::linked` meets its contract: `all` has the links of the states that were taken out of `rest`.
+-- `linked` meets its contract: `all` has the links of the states that were taken out of `rest`.
 use Rattle.bits.proofs.Words.{and-members}
 use Rattle.bits.specs.Word.{members}
 use Rattle.links.proofs.LinkSets.{Linking, linking-start, linking-next, linking-done}

@@ -1,4 +1,4 @@
--- `refinement::links::linking` meets its contract: before state u the states below it are those with a link to a state of the word.
+-- `linking` meets its contract: before state u the states below it are those with a link to a state of the word.
 use Prim.Native.Nat.{_-_, _≤_}
 use Rattle.bits.specs.Word.{members}
 use Rattle.links.proofs.LinkSets.{linkedTo, linked-none, linked-more, linked-pass}

@@ -1,4 +1,4 @@
--- `refinement::links::unlinked` meets its contract: of the states that were taken out of `rest`, `left` has those without such a link.
+-- `unlinked` meets its contract: of the states that were taken out of `rest`, `left` has those without such a link.
 use borrow.Author.Needs.{needs}
 use native.Mathlib.Omega.{arith}
 use mathlib.Core.Logic.{⊎-elim}

@@ -1,4 +1,4 @@
--- `matching::loading::comes_before` meets its contract.
+-- `comes_before` meets its contract.
 use borrow.Author.Tests.{lt-ltb, le-ltb, eq-eqb, ne-eqb}
 use Rattle.load_rules.proofs.comes_before.Statement.{statement}
 use Rattle.load_rules.proofs.comes_before.Tie as tie

@@ -1,4 +1,4 @@
--- `matching::loading::edges_wrong` meets its contract.
+-- `edges_wrong` meets its contract.
 use borrow.Author.Tests.{lt-ltb, le-ltb}
 use Rattle.load_rules.proofs.edges_wrong.Statement.{statement}
 use Rattle.load_rules.proofs.edges_wrong.Tie as tie

@@ -1,4 +1,4 @@
--- `matching::loading::links_wrong` meets its contract: the links are tested together.
+-- `links_wrong` meets its contract: the links are tested together.
 use borrow.Author.Needs.{needs}
 use mathlib.Core.Path.{ap, _∙_}
 use mathlib.Core.Bool.{not}

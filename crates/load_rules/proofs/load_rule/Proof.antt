@@ -1,4 +1,4 @@
--- `matching::loading::load_rule` meets its contract: the rules are tested in their sequence.
+-- `load_rule` meets its contract: the rules are tested in their sequence.
 use Prim.Native.Nat.{ℕ}
 use borrow.Author.Needs.{needs}
 use borrow.Author.Tests.{lt-ltb, le-ltb}

@@ -1,4 +1,4 @@
--- `matching::loading::nodes_wrong` meets its contract.
+-- `nodes_wrong` meets its contract.
 use borrow.Author.Needs.{needs}
 use mathlib.Core.Path.{_≡_, ap, _∙_}
 use mathlib.Core.Logic.{⊎-elim}

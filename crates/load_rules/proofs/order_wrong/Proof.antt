@@ -1,4 +1,4 @@
--- `matching::loading::order_wrong` meets its contract: a fault is noted where an edge does not come before the next.
+-- `order_wrong` meets its contract: a fault is noted where an edge does not come before the next.
 use Prim.Native.Nat.{ℕ, suc, _+_, _-_, _≤_}
 use borrow.Author.Needs.{needs}
 use borrow.Author.Tests.{not-true, not-false}

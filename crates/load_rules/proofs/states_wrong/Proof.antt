@@ -1,4 +1,4 @@
--- `matching::loading::states_wrong` meets its contract.
+-- `states_wrong` meets its contract.
 use borrow.Author.Tests.{eq-eqb, ne-eqb}
 use mathlib.Core.Path.{_≡_, _∙_}
 use mathlib.Core.Logic.{⊎-elim}

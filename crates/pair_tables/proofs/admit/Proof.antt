@@ -1,4 +1,4 @@
--- `refinement::table::admit` meets its contract: after v nodes these have the state where they admit it, and are counted.
+-- `admit` meets its contract: after v nodes these have the state where they admit it, and are counted.
 use Prim.Native.Nat.{_-_, _≤_}
 use native.Mathlib.Omega.{arith}
 use borrow.Author.Needs.{needs}

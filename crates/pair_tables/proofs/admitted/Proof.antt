@@ -1,4 +1,4 @@
--- `refinement::table::admitted` meets its contract: after u states the table has the admitted pairs of these.
+-- `admitted` meets its contract: after u states the table has the admitted pairs of these.
 use Prim.Native.Nat.{_*_, _-_, _^_, _≤_}
 use native.Mathlib.Omega.{arith}
 use borrow.Author.Needs.{needs}

@@ -1,4 +1,4 @@
--- `trials::table::admitted_at` meets its contract: the states below u that admit the sample were put in.
+-- `admitted_at` meets its contract: the states below u that admit the sample were put in.
 use Prim.Native.Nat.{_-_, _^_, _<_, _≤_}
 use borrow.Author.Needs.{needs}
 use native.Mathlib.Omega.{arith}

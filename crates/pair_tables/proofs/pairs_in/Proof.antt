@@ -1,4 +1,4 @@
--- `trials::table::pairs_in` meets its contract: the pairs at the nodes below v are counted.
+-- `pairs_in` meets its contract: the pairs at the nodes below v are counted.
 use Prim.Native.Nat.{_-_, _*_, _≤_}
 use borrow.Author.Needs.{needs}
 use native.Mathlib.Omega.{arith}

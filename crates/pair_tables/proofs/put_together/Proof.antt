@@ -1,4 +1,4 @@
--- `trials::table::put_together` meets its contract: the words below v are changed.
+-- `put_together` meets its contract: the words below v are changed.
 use Prim.Native.Nat.{_-_}
 use borrow.Author.Needs.{needs}
 use mathlib.Core.Path.{refl}

@@ -1,4 +1,4 @@
--- `trials::table::take_away` meets its contract: the words below v are changed.
+-- `take_away` meets its contract: the words below v are changed.
 use Prim.Native.Nat.{_-_}
 use borrow.Author.Needs.{needs}
 use mathlib.Core.Path.{refl}

@@ -1,4 +1,4 @@
--- `matching::questions::fires` meets its contract: where no rule is broken, firing is read from the marks of the nodes.
+-- `fires` meets its contract: where no rule is broken, firing is read from the marks of the nodes.
 use borrow.Author.Needs.{needs}
 use native.Mathlib.Omega.{arith}
 use mathlib.Core.Path.{_≡_, sym, _∙_}

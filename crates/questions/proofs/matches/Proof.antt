@@ -1,4 +1,4 @@
--- `matching::questions::matches` meets its contract: where no rule is broken, the mark is the bit that was read.
+-- `matches` meets its contract: where no rule is broken, the mark is the bit that was read.
 use borrow.Author.Needs.{needs}
 use Prim.Native.Nat.{_-_}
 use native.Mathlib.Omega.{arith}

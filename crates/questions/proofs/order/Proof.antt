@@ -1,4 +1,4 @@
--- `matching::questions::order` meets its contract: where no rule is broken, the walk over the links held is the order.
+-- `order` meets its contract: where no rule is broken, the walk over the links held is the order.
 use borrow.Author.Needs.{needs}
 use native.Mathlib.Omega.{arith}
 use mathlib.Core.Path.{_≡_, sym, _∙_, ap}

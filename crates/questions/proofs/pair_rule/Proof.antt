@@ -1,4 +1,4 @@
--- `matching::questions::pair_rule` meets its contract: what breaks no rule of all questions is tested by the last, in three steps.
+-- `pair_rule` meets its contract: what breaks no rule of all questions is tested by the last, in three steps.
 use borrow.Author.Needs.{needs}
 use native.Mathlib.Omega.{arith}
 use mathlib.Core.Path.{_≡_, sym, _∙_}

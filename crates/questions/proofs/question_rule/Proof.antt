@@ -1,4 +1,4 @@
--- `matching::questions::question_rule` meets its contract: the rules are tested in their sequence.
+-- `question_rule` meets its contract: the rules are tested in their sequence.
 use borrow.Author.Needs.{needs}
 use borrow.Author.Tests.{not-false}
 use mathlib.Core.Path.{ap, sym, _∙_}

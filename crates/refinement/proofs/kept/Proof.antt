@@ -1,4 +1,4 @@
--- `refinement::refine::kept` meets its contract: the states with a link that is not met go, whichever way they are found.
+-- `kept` meets its contract: the states with a link that is not met go, whichever way they are found.
 use Rattle.bits.specs.Word.{members}
 use Rattle.refinement.proofs.Support.{kept-without, kept-whole}
 use Rattle.simulation.specs.Sets.{minus}

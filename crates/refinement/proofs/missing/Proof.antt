@@ -1,4 +1,4 @@
--- `refinement::refine::missing` meets its contract: before the edge k, the links that the edges below it carry are struck off.
+-- `missing` meets its contract: before the edge k, the links that the edges below it carry are struck off.
 use Prim.Native.Nat.{_-_, _≤_}
 use Rattle.refinement.proofs.Support.{Searching, searching-none, searching-more, searching-end, searching-done}
 use borrow.Author.Needs.{needs}

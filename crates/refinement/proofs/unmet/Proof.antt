@@ -1,4 +1,4 @@
--- `refinement::refine::unmet` meets its contract: the links of the word, those below the number of states, searched for.
+-- `unmet` meets its contract: the links of the word, those below the number of states, searched for.
 use Rattle.bits.proofs.Words.{and-members}
 use Rattle.refinement.specs.Refining.{carried}
 use Rattle.simulation.specs.Sets.{Set}

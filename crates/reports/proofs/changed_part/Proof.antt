@@ -1,4 +1,4 @@
--- `reports::answers::changed_part` meets its contract.
+-- `changed_part` meets its contract.
 use borrow.Author.Needs.{needs}
 use borrow.Author.Tests.{le-leb, lt-leb}
 use mathlib.Core.Path.{sym}

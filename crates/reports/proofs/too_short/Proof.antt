@@ -1,4 +1,4 @@
--- `matching::loading::too_short` meets its contract.
+-- `too_short` meets its contract.
 use borrow.Author.Tests.{lt-ltb, le-ltb}
 use Rattle.reports.proofs.too_short.Statement.{statement}
 use Rattle.reports.proofs.too_short.Tie as tie

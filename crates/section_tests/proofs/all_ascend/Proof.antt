@@ -1,4 +1,4 @@
--- `session::all_ascend` meets its contract: a fault is noted where an edge is not above the one before it.
+-- `all_ascend` meets its contract: a fault is noted where an edge is not above the one before it.
 use Prim.Native.Nat.{ℕ, _+_, _-_, _≤_}
 use borrow.Author.Needs.{needs}
 use borrow.Author.Tests.{lt-ltb, le-ltb}

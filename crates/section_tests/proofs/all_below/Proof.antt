@@ -1,4 +1,4 @@
--- `session::all_below` meets its contract: a fault is noted where a word reaches the limit.
+-- `all_below` meets its contract: a fault is noted where a word reaches the limit.
 use Prim.Native.Nat.{_-_}
 use borrow.Author.Needs.{needs}
 use borrow.Author.Tests.{lt-ltb, le-ltb}

@@ -1,4 +1,4 @@
--- `session::all_named` meets its contract: the last start is tested, and a fault is noted where an edge's end is no node.
+-- `all_named` meets its contract: the last start is tested, and a fault is noted where an edge's end is no node.
 use Prim.Native.Nat.{ℕ, _-_, _/_, _%_, _≤_}
 use Rattle.simulation.proofs.Folds.{Folded, fold-start, fold-pass, fold-fault, fold-end}
 use Rattle.section_tests.proofs.Named.{ending, none-named, start-fails, ends-decide}

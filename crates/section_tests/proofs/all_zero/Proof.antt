@@ -1,4 +1,4 @@
--- `session::all_zero` meets its contract: there is no member in the union just where each word is zero.
+-- `all_zero` meets its contract: there is no member in the union just where each word is zero.
 use borrow.Author.Needs.{needs}
 use Rattle.bits.proofs.Gathers.{gathered-zero}
 use Rattle.session.specs.Layout.{below}

@@ -1,4 +1,4 @@
--- `session::section_fits` meets its contract: the words of each part are tested together.
+-- `section_fits` meets its contract: the words of each part are tested together.
 use Prim.Native.Nat.{_-_}
 use borrow.Author.Needs.{needs}
 use native.Mathlib.Omega.{arith}

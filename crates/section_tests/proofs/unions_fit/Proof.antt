@@ -1,4 +1,4 @@
--- `session::unions_fit` meets its contract: the mask of the k low bits, and no bit.
+-- `unions_fit` meets its contract: the mask of the k low bits, and no bit.
 use Prim.Native.Nat.{_-_, _^_}
 use borrow.Author.Needs.{needs}
 use mathlib.Core.Path.{_≡_, ap, _∙_}

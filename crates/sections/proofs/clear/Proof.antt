@@ -1,4 +1,4 @@
--- `session::clear` meets its contract: the places before i are zero.
+-- `clear` meets its contract: the places before i are zero.
 use Prim.Native.Nat.{_-_}
 use borrow.Author.Needs.{needs}
 use native.Mathlib.Omega.{arith}

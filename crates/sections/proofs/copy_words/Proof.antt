@@ -1,4 +1,4 @@
--- `session::copy_words` meets its contract: the places before i hold the words of the source.
+-- `copy_words` meets its contract: the places before i hold the words of the source.
 use Prim.Native.Nat.{ℕ, _-_}
 use borrow.Author.Needs.{needs}
 use native.Mathlib.Omega.{arith}

@@ -1,4 +1,4 @@
--- `session::fill_edges` meets its contract: fewer edges than places are followed by zeros, and of more the first are stored.
+-- `fill_edges` meets its contract: fewer edges than places are followed by zeros, and of more the first are stored.
 use borrow.Author.Needs.{needs}
 use native.Mathlib.Omega.{arith}
 use mathlib.Core.Path.{_∙_, refl, sym}

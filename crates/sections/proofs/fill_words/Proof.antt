@@ -1,4 +1,4 @@
--- `session::fill_words` meets its contract: a source that is shorter is followed by zeros, and of one that is not its front is copied.
+-- `fill_words` meets its contract: a source that is shorter is followed by zeros, and of one that is not its front is copied.
 use borrow.Author.Needs.{needs}
 use native.Mathlib.Omega.{arith}
 use mathlib.Core.Path.{_∙_, ap, refl, sym}

@@ -1,4 +1,4 @@
--- `session::narrow` meets its contract: the places before i hold the words of the source.
+-- `narrow` meets its contract: the places before i hold the words of the source.
 use Prim.Native.Nat.{ℕ, _-_, _^_}
 use borrow.Author.Needs.{needs}
 use native.Mathlib.Omega.{arith}

@@ -1,4 +1,4 @@
--- `editing::alone::alone` meets its contract: none of the first k edges leads to the start from a node with a fresh state of the word.
+-- `alone` meets its contract: none of the first k edges leads to the start from a node with a fresh state of the word.
 use Prim.Native.Nat.{ℕ, _-_, _/_, _%_, _<_, _≤_}
 use Rattle.trials.proofs.Lonely.{aloneTo, alone-none, alone-more, alone-found, alone-all}
 use Rattle.editing.specs.Steps.{freshAmong}

@@ -1,4 +1,4 @@
--- `order::visit` meets its contract. The loop's invariant: the walk holds what i links of the state make of its list. The number that falls
+-- `visit` meets its contract. The loop's invariant: the walk holds what i links of the state make of its list. The number that falls
 -- with each call is that of the places left.
 use Prim.Native.Nat.{ℕ, _-_, _<_}
 use native.Mathlib.Omega.{arith}

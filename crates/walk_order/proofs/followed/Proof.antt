@@ -1,4 +1,4 @@
--- `order::followed` meets its contract. The loop's invariant: the walk holds what i of the states make of its list.
+-- `followed` meets its contract. The loop's invariant: the walk holds what i of the states make of its list.
 use Prim.Native.Nat.{_-_}
 use native.Mathlib.Omega.{arith}
 use borrow.Author.Needs.{needs}

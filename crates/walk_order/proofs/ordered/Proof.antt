@@ -1,4 +1,4 @@
--- `order::ordered` meets its contract.
+-- `ordered` meets its contract.
 use borrow.Author.Needs.{needs}
 use Rattle.walk_order.proofs.Walks.{start-ready, order-held}
 use Rattle.walk_order.proofs.ordered.Statement.{statement}

@@ -1,4 +1,4 @@
--- `order::written` meets its contract.
+-- `written` meets its contract.
 use borrow.Author.Needs.{needs}
 use Rattle.walk_order.proofs.Walks.{written-holds}
 use Rattle.walk_order.proofs.written.Statement.{statement}

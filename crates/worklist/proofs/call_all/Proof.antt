@@ -1,4 +1,4 @@
--- `trials::table::call_all` meets its contract: the words below i gained the nodes of their parts.
+-- `call_all` meets its contract: the words below i gained the nodes of their parts.
 use Prim.Native.Nat.{ℕ, _+_, _-_, _*_, _≤_}
 use borrow.Author.Needs.{needs}
 use native.Mathlib.Omega.{arith}

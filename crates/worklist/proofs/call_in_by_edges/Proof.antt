@@ -1,4 +1,4 @@
--- `refinement::worklist::call_in_by_edges` meets its contract: the predecessors by the first k edges have been called in.
+-- `call_in_by_edges` meets its contract: the predecessors by the first k edges have been called in.
 use Prim.Native.Nat.{ℕ, _-_, _≤_}
 use Rattle.bits.specs.Word.{meets}
 use Rattle.worklist.proofs.CalledIn.{leadsTo, leads-none, leads-more, leads-all}

@@ -1,4 +1,4 @@
--- `refinement::worklist::call_in_by_index` meets its contract: `next` edges are left, and the predecessors by later edges have been called in.
+-- `call_in_by_index` meets its contract: `next` edges are left, and the predecessors by later edges have been called in.
 use Prim.Native.Nat.{ℕ, _-_}
 use Rattle.bits.specs.Word.{meets}
 use Rattle.worklist.proofs.CalledIn.{Calling, calling-none, calling-more, calling-pass, calling-done}

@@ -1,4 +1,4 @@
--- `refinement::worklist::call_one` meets its contract: the start is put in where the edge ends at the node and the table passes.
+-- `call_one` meets its contract: the start is put in where the edge ends at the node and the table passes.
 use Prim.Native.Nat.{ℕ}
 use Rattle.bits.specs.Word.{meets}
 use Rattle.worklist.proofs.CalledIn.{one-in, one-out, ends-elsewhere, start-fails}

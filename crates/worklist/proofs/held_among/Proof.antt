@@ -1,4 +1,4 @@
--- `trials::table::held_among` meets its contract: the nodes below k of the part that have a pair were put in.
+-- `held_among` meets its contract: the nodes below k of the part that have a pair were put in.
 use Prim.Native.Nat.{_-_, _≤_}
 use borrow.Author.Needs.{needs}
 use native.Mathlib.Omega.{arith}

@@ -1,4 +1,4 @@
--- `refinement::worklist::lowest_in` meets its contract: before word i no node waits below it.
+-- `lowest_in` meets its contract: before word i no node waits below it.
 use Prim.Native.Nat.{_-_, _*_, _≤_}
 use borrow.Author.Needs.{needs}
 use native.Mathlib.Omega.{arith}

@@ -1,4 +1,4 @@
--- `refinement::worklist::put_in` meets its contract.
+-- `put_in` meets its contract.
 use borrow.Author.Needs.{needs}
 use native.Mathlib.Omega.{arith}
 use Rattle.worklist.proofs.Waits.{waits-also}

@@ -1,4 +1,4 @@
--- `refinement::worklist::take_out` meets its contract.
+-- `take_out` meets its contract.
 use borrow.Author.Needs.{needs}
 use native.Mathlib.Omega.{arith}
 use Rattle.worklist.proofs.Waits.{waits-without}
