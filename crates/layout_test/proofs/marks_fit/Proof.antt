@@ -112,17 +112,17 @@ all-admitted-requires c κs =
     let m = s .args .nodes in
     let xs = s .args .session .now in
     let small = test-marks xs n m (sym (whole (one .before)) ∙ one .if1 .taken) (omega arith) (omega arith) (omega arith) in
-    simp add-sub-cancel-left (
+    (
       (
-        part-length xs 51 m (omega arith) ∙ sym (part-length xs 2611 m (omega arith)),
-        part-length xs 19 n (omega arith) ∙ sym (part-length xs 3 n (omega arith)),
-        omega (arith, part-length xs 3 n (omega arith)),
+        simp add-sub-cancel-left (part-length xs 51 m (omega arith) ∙ sym (part-length xs 2611 m (omega arith))),
+        simp add-sub-cancel-left (part-length xs 19 n (omega arith) ∙ sym (part-length xs 3 n (omega arith))),
+        simp add-sub-cancel-left (omega (arith, part-length xs 3 n (omega arith))),
       ),
       (
-        s .pre .1 .0,
+        simp add-sub-cancel-left (s .pre .1 .0),
         (
-          (s .pre .1 .1, small, omega (arith, part-length xs 2611 m (omega arith))),
-          simp add-sub-cancel-left at (g .gathered .ensures),
+          (simp add-sub-cancel-left (s .pre .1 .1), simp add-sub-cancel-left small, simp add-sub-cancel-left (omega (arith, part-length xs 2611 m (omega arith)))),
+          simp add-sub-cancel-left (simp add-sub-cancel-left at (g .gathered .ensures)),
         ),
       ),
     )
