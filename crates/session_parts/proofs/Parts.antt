@@ -1,4 +1,4 @@
--- The parts of a session in layout are what it holds: sections, and marks.
+-- A part of a memory that begins at a place; and the mark words of a session in layout are those of the marks that it holds.
 use Prim.Native.Nat.{ℕ, _+_, _-_, _<_, _≤_}
 use native.Mathlib.Omega.{arith}
 use mathlib.Core.Path.{_≡_, sym, _∙_, ap, fun-ext}
@@ -27,27 +27,6 @@ part-is xs p k = let e : p + k - p ≡ k = omega arith in ap (λ (x : ℕ). take
 module _ (xs : List ℕ) (h : inLayout xs ≡ true) where
   abbrev facts : LayoutFacts xs
   facts = layout-facts xs h
-
-  -- the parts of a session are what it holds
-  pub held-masks : take (3 + getD xs 0 0 - 3) (drop 3 xs) ≡ triggerOf xs .masks
-  unfolding triggerOf
-  held-masks = part-is xs 3 (getD xs 0 0)
-
-  pub held-values : take (19 + getD xs 0 0 - 19) (drop 19 xs) ≡ triggerOf xs .values
-  unfolding triggerOf
-  held-values = part-is xs 19 (getD xs 0 0)
-
-  pub held-links : take (35 + getD xs 0 0 - 35) (drop 35 xs) ≡ triggerOf xs .links
-  unfolding triggerOf
-  held-links = part-is xs 35 (getD xs 0 0)
-
-  pub held-samples : take (51 + getD xs 1 0 - 51) (drop 51 xs) ≡ graphOf xs .samples
-  unfolding graphOf
-  held-samples = part-is xs 51 (getD xs 1 0)
-
-  pub held-edges : take (563 + getD xs 2 0 - 563) (drop 563 xs) ≡ graphOf xs .edges
-  unfolding graphOf
-  held-edges = part-is xs 563 (getD xs 2 0)
 
   -- the mark words are those of the marks that are held
   abbrev t : Trigger

@@ -1,51 +1,56 @@
 // The parts of a session that is in layout, and its marks stored.
+ghost use Prim.Native.Nat.{_+_, _≤_};
 ghost use mathlib.Core.Path.{_≡_};
 ghost use mathlib.Core.Bool.{true};
 ghost use lib.ListN.{take, drop, length};
 ghost use Rattle.session.specs.Limits.{marksAt, maxNodes, fixedSize};
-ghost use Rattle.session.specs.Layout.{triggerOf, graphOf, inLayout, image};
+ghost use Rattle.session.specs.Layout.{part, triggerOf, graphOf, inLayout, image};
 ghost use mathlib.Core.List.{_++_};
 ghost use Rattle.pair_tables.specs.Tables.{marked};
 ghost use Rattle.session_parts.specs.Inside.{Inside};
+
+// The part of a memory that begins at a place and has so many words.
+pub fn part_of(session: &[u32], at: usize, used: usize) -> &[u32]
+    requires { ⌜ at + used ≤ length (now session) ⌝ }
+    ensures { λ r. ⌜ now r ≡ part (now (session .entry)) at used ⌝ }
+{
+    let end = at + used;
+    &session[at..end]
+}
 
 pub fn masks_of(session: &[u32]) -> &[u32]
     requires { ⌜ inLayout (now session) ≡ true ⌝ }
     ensures { λ r. ⌜ now r ≡ triggerOf (now (session .entry)) .masks ⌝ }
 {
-    let end = session::MASKS_AT + session[0] as usize;
-    &session[session::MASKS_AT..end]
+    part_of(session, session::MASKS_AT, session[0] as usize)
 }
 
 pub fn values_of(session: &[u32]) -> &[u32]
     requires { ⌜ inLayout (now session) ≡ true ⌝ }
     ensures { λ r. ⌜ now r ≡ triggerOf (now (session .entry)) .values ⌝ }
 {
-    let end = session::VALUES_AT + session[0] as usize;
-    &session[session::VALUES_AT..end]
+    part_of(session, session::VALUES_AT, session[0] as usize)
 }
 
 pub fn links_of(session: &[u32]) -> &[u32]
     requires { ⌜ inLayout (now session) ≡ true ⌝ }
     ensures { λ r. ⌜ now r ≡ triggerOf (now (session .entry)) .links ⌝ }
 {
-    let end = session::LINKS_AT + session[0] as usize;
-    &session[session::LINKS_AT..end]
+    part_of(session, session::LINKS_AT, session[0] as usize)
 }
 
 pub fn samples_of(session: &[u32]) -> &[u32]
     requires { ⌜ inLayout (now session) ≡ true ⌝ }
     ensures { λ r. ⌜ now r ≡ graphOf (now (session .entry)) .samples ⌝ }
 {
-    let end = session::SAMPLES_AT + session[1] as usize;
-    &session[session::SAMPLES_AT..end]
+    part_of(session, session::SAMPLES_AT, session[1] as usize)
 }
 
 pub fn edges_of(session: &[u32]) -> &[u32]
     requires { ⌜ inLayout (now session) ≡ true ⌝ }
     ensures { λ r. ⌜ now r ≡ graphOf (now (session .entry)) .edges ⌝ }
 {
-    let end = session::EDGES_AT + session[2] as usize;
-    &session[session::EDGES_AT..end]
+    part_of(session, session::EDGES_AT, session[2] as usize)
 }
 
 // The mark words, a word for each of 512 nodes.

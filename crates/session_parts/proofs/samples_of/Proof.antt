@@ -1,34 +1,25 @@
 -- The part that the count tells.
-use borrow.Author.Needs.{needs}
 use native.Mathlib.Omega.{arith}
+use Rattle.session.specs.Layout.{graphOf}
 use Rattle.session.proofs.Decoded.{Bounded, layout-limits}
-use Rattle.session_parts.proofs.Parts.{held-samples}
 use Rattle.session_parts.proofs.samples_of.Statement.{statement}
 use Rattle.session_parts.proofs.samples_of.Tie as tie
 
-abbrev bounded : (c : tie.After-shared-slice-known) → Bounded (c .before .args .session .now)
-bounded c = layout-limits (c .before .args .session .now) (c .before .pre)
+abbrev bounded : (c : tie.After-shared-slice-known2) → Bounded (c .before .before .args .session .now)
+bounded c = layout-limits (c .before .before .args .session .now) (c .before .before .pre)
 
-shared-slice-read-end : tie.Need-shared-slice-read-end
-shared-slice-read-end c = omega (arith, bounded c)
+shared-slice-read-part-of : tie.Need-shared-slice-read-part-of
+shared-slice-read-part-of c = omega (arith, bounded c)
 
-cast-end : tie.Need-cast-end
-cast-end c = omega (arith, bounded c)
+cast-part-of : tie.Need-cast-part-of
+cast-part-of c = omega (arith, bounded c)
 
-add-end : tie.Need-add-end
-add-end c = omega (arith, bounded c)
-
-sub-result : tie.Need-sub-result
-sub-result c = search needs
-
-part-result-start : tie.Need-part-result-start
-part-result-start c = search needs
-
-part-result-end : tie.Need-part-result-end
-part-result-end c = omega (arith, bounded c)
+part-of-requires : tie.Need-part-of-requires
+part-of-requires c κs = omega (arith, bounded c)
 
 returns : tie.Need-returns
-returns c = held-samples (c .before .before .args .session .now) (c .before .before .pre)
+unfolding graphOf
+returns c = c .part-of .ensures
 
 pub samples-of-spec : {M : Type 1} → statement M
-samples-of-spec = tie.close (tie.spec shared-slice-read-end cast-end add-end sub-result part-result-start part-result-end returns)
+samples-of-spec = tie.close (tie.spec shared-slice-read-part-of cast-part-of part-of-requires returns)
