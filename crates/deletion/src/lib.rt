@@ -13,16 +13,14 @@ ghost use Rattle.editing.specs.Steps.{steadyAt, Ceased, Saved};
 use edge_indexes::edges_from;
 use edges::held::remove_edge;
 use editing::Effect;
+use editing::refine_at;
 use pair_tables::pairs_in;
 use pair_tables::take_away;
-use refinement::refine_few;
 use refinement::unmet;
 use session_parts::edges_of;
 use session_parts::links_of;
 use session_parts::marks_of;
 use session_parts::store_marks;
-use worklist::WAITING_WORDS;
-use worklist::put_in;
 
 // Whether each mark at a node keeps its support: one look by the marks alone, before any index is built.
 pub fn steady(session: &[u32], node: u32) -> bool
@@ -43,18 +41,8 @@ pub fn cease(session: &[u32], start: u32, table: &mut [u32])
     requires { ⌜ (inLayout (now session) ≡ true) × (start < nodes (graphOf (now session))) × (now table ≡ take maxNodes (drop marksAt (now session))) ⌝ }
     ensures { λ r. ⌜ Ceased (now (session .entry)) start (now (table .exit)) ⌝ }
 {
-    let nodes = session[1] as usize;
-    let mut waiting = [0u32; WAITING_WORDS];
-    put_in(&mut waiting, start as usize);
     let settled = [0u32; session::MAX_NODES];
-    refine_few(
-        links_of(session),
-        edges_of(session),
-        nodes,
-        &settled,
-        table,
-        &mut waiting,
-    );
+    refine_at(session, start, &settled, table);
 }
 
 // How many pairs are marked and not in the table.

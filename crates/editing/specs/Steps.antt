@@ -5,7 +5,7 @@ use mathlib.Core.Bool.{Bool, true, false, not, _&&_, _||_}
 use mathlib.Core.List.{List, [], _∷_}
 use lib.Dec.{ltb}
 use lib.ListN.{length, getD}
-use Rattle.simulation.specs.Sets.{Set, In, none, allBelow, anyBelow, count}
+use Rattle.simulation.specs.Sets.{Set, In, none, union, allBelow, anyBelow, count}
 use Rattle.simulation.specs.System.{supported, refined}
 use Rattle.simulation.specs.Pattern.{pair, system}
 use Rattle.session.specs.Limits.{maxNodes, maxChanges, fixedSize}
@@ -64,6 +64,14 @@ unfoldable pub steadyAt : List ℕ → ℕ → Bool
 steadyAt xs v =
     allBelow (states (triggerOf xs))
     (λ u. not (marksOf xs u v) || backed xs (markedPairs xs) (pair (pattern (triggerOf xs) (graphOf xs)) u v))
+
+-- what refinement from the node a leaves of the pairs m beside the pairs s: all of m refined, where only pairs at a may lack support
+pub record RefinedAt (xs : List ℕ) (a : ℕ) (s m : Marks) (ts : List ℕ) : Type 0 where
+  pub long : length ts ≡ maxNodes
+  pub within : (u v : ℕ) → marked ts u v ≡ true → m u v ≡ true
+  pub exact : ((p : ℕ) → In (pairsOf (triggerOf xs) (graphOf xs) m) p → (p / states (triggerOf xs) ≡ a → ⊥)
+      → In (backed xs (union (pairsOf (triggerOf xs) (graphOf xs) s) (pairsOf (triggerOf xs) (graphOf xs) m))) p)
+      → Holds xs (refined (system (pattern (triggerOf xs) (graphOf xs))) (pairsOf (triggerOf xs) (graphOf xs) s) (pairsOf (triggerOf xs) (graphOf xs) m)) ts
 
 -- what is left of the marks by refinement from the node a: all that the marks hold refined, where only pairs at a may lack support
 pub record Ceased (xs : List ℕ) (a : ℕ) (ts : List ℕ) : Type 0 where

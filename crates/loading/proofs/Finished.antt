@@ -6,8 +6,6 @@ use mathlib.Core.List.{List, _++_}
 use lib.IntN.{ℤ}
 use lib.ListN.{length, getD, drop}
 use Rattle.simulation.proofs.Sets.{clash}
-use Rattle.bits.proofs.Words.{zero-members}
-use Rattle.bits.specs.Word.{members}
 use Rattle.session.specs.Limits.{fixedSize, wordBits}
 use Rattle.session.specs.Trigger.{Trigger, Graph, Marks, states, nodes, admits}
 use Rattle.session.specs.Layout.{below, image, triggerOf, graphOf, marksOf, inLayout}
@@ -15,6 +13,7 @@ use Rattle.session.proofs.Valid.{TriggerFacts, GraphFacts, marks-valid}
 use Rattle.session.proofs.Image.{drop-image}
 use Rattle.session.proofs.Decoded.{trigger-image, graph-image, marks-image, layout-image}
 use Rattle.pair_tables.specs.Tables.{marked}
+use Rattle.pair_tables.proofs.Tabling.{marked-none}
 use Rattle.listing.specs.Changes.{changes}
 use Rattle.promises.specs.declared.Answer.{Answer}
 use Rattle.promises.specs.Standing.{stands, size, pairsOf}
@@ -24,10 +23,6 @@ use Rattle.session_parts.specs.Inside.{Inside}
 use Rattle.loading.specs.Solved.{Solved}
 use Rattle.promises.proofs.Stands.{stands-inside, stands-admitted}
 use Rattle.promises.proofs.Loads.{load-trigger, load-graph}
-
--- words of zero mark nothing
-pub marked-none : (ts : List ℕ) → ((v : ℕ) → getD ts v 0 ≡ 0) → marked ts ≡ (λ u v. false)
-marked-none ts h = fun-ext (λ u. fun-ext (λ v. ap (λ (w : ℕ). members w u) (h v) ∙ zero-members u))
 
 module _ (x : Given) (s : List ℕ) (room : ℕ) (ok : verdict (loadRules (length s) room x) ≡ 0) (masks : below (2 ^ wordBits) (x .masks) ≡ true)
     (values : below (2 ^ wordBits) (x .values) ≡ true) (samples : below (2 ^ wordBits) (x .samples) ≡ true) (s₁ : List ℕ)

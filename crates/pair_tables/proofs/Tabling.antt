@@ -2,7 +2,7 @@
 use Prim.Native.Nat.{ℕ, zero, suc, _+_, _*_, _/_, _%_, _^_, _<_, _≤_, zero-le}
 use native.Mathlib.Numerals.{add-one}
 use native.Mathlib.Omega.{arith}
-use mathlib.Core.Path.{_≡_, refl, sym, ap, ap₂, _∙_}
+use mathlib.Core.Path.{_≡_, refl, sym, ap, ap₂, _∙_, fun-ext}
 use mathlib.Core.Logic.{⊎-elim}
 use mathlib.Core.Bool.{Bool, true, false, cond}
 use mathlib.Core.List.{List}
@@ -22,6 +22,10 @@ use Rattle.session.specs.Trigger.{agrees}
 use Rattle.pair_tables.specs.Tables.{marked}
 use Rattle.simulation.proofs.Gains.{more-here, more-other}
 use Rattle.pair_tables.proofs.Admitting.{agrees-test}
+
+-- words of zero mark nothing
+pub marked-none : (ts : List ℕ) → ((v : ℕ) → getD ts v 0 ≡ 0) → marked ts ≡ (λ u v. false)
+marked-none ts h = fun-ext (λ u. fun-ext (λ v. ap (λ (w : ℕ). members w u) (h v) ∙ zero-members u))
 
 module _ (masks values : List ℕ) (sample : ℕ) where
   abbrev pub admitting : Set

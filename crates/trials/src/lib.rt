@@ -17,6 +17,7 @@ ghost use Rattle.pair_tables.specs.Tables.{marked};
 ghost use Rattle.session_parts.specs.Inside.{Inside};
 use edge_indexes::STARTS;
 use edge_indexes::index_starts;
+use editing::refine_at;
 use growth::grow;
 use links::CALLERS;
 use links::index_callers;
@@ -25,7 +26,6 @@ use pair_tables::admitted;
 use pair_tables::admitted_at;
 use pair_tables::take_away;
 use refinement::refine;
-use refinement::refine_few;
 use session_parts::edges_of;
 use session_parts::links_of;
 use session_parts::marks_of;
@@ -181,15 +181,5 @@ pub fn begin_at(session: &[u32], node: u32, table: &mut [u32])
     requires { ⌜ ((v : ℕ) → (v ≡ node → ⊥) → getD (now table) v 0 ≡ 0) ⌝ }
     ensures { λ r. ⌜ Holds (now (session .entry)) (refined (system (pattern (triggerOf (now (session .entry))) (graphOf (now (session .entry))))) (markedPairs (now (session .entry))) (pairsOf (triggerOf (now (session .entry))) (graphOf (now (session .entry))) (marked (now (table .entry))))) (now (table .exit)) ⌝ }
 {
-    let nodes = session[1] as usize;
-    let mut waiting = [0u32; WAITING_WORDS];
-    put_in(&mut waiting, node as usize);
-    refine_few(
-        links_of(session),
-        edges_of(session),
-        nodes,
-        marks_of(session),
-        table,
-        &mut waiting,
-    );
+    refine_at(session, node, marks_of(session), table);
 }

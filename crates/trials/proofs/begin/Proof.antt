@@ -104,7 +104,7 @@ returns c =
     let few = layout-facts xs (s .pre .0 .0) .counts .1 in
     trials-refined xs (s .pre .0 .0) _ _ (c .before .before .before .before .before .before .before .before .before .before .before .before .links-of .ensures) (c .before .before .before .before .before .before .before .before .before .before .before .before .before .before .before .before .edges-of .ensures) _ _ _ _
     (refining-end _ _ _ sound _ _ _ _ _ _ (r .0) (r .1 (λ none. omega (arith, none, s .pre .1 .heads-long))) (λ u v e. omega (arith, few, s .pre .0 .2 u v e .1)) (s .pre .0 .1))
-    (c .before .before .before .before .before .before .before .before .marks-of .ensures) (s .pre .0 .1) (s .pre .0 .2)
+    (s .pre .0 .1) (s .pre .0 .2) (c .before .before .before .before .before .before .before .before .marks-of .ensures)
     (λ v some. c .before .before .before .before .before .before .before .before .before .before .before .before .before .before .before .before .before .before .call-all .ensures .1 v ∙ or-r (waits (replicate 16 0) v) (not-make (ne-eqb (getD (s .args .table .now) v 0) 0 some)))
 
 pub begin-spec : {M : Type 1} → statement M
