@@ -1,15 +1,15 @@
 -- What a comparison of words says of their members: no member, a subset, the same bits under a mask.
-use Prim.Native.Nat.{ℕ, zero, suc, _^_, _<_, _≤_}
+use Prim.Native.Nat.{ℕ, _^_, _<_, _≤_}
 use native.Mathlib.Omega.{arith}
 use native.Mathlib.Nat.{lt-of-le-of-lt}
 use mathlib.Core.Path.{_≡_, refl, sym, ap, ap₂, fun-ext, _∙_}
-use mathlib.Core.Bool.{Bool, true, false, not, _&&_, _||_, Bool·beq, cond, and-false}
+use mathlib.Core.Bool.{Bool, true, false, not, _&&_, _||_, Bool·beq, Bool·not-not, cond, and-false}
 use lib.Dec.{ltb, eqb}
 use lib.Pow.{pow-pos}
 use lib.Bits.{bitAnd, bitXor, and-le-l, and-le-r}
 use borrow.Author.Tests.{ltb-true, lt-ltb, eqb-true, eq-eqb}
 use Rattle.simulation.specs.Sets.{Set, anyBelow, allBelow}
-use Rattle.simulation.proofs.Sets.{same, implies-make, implies-take, all-make, all-take}
+use Rattle.simulation.proofs.Sets.{same, implies-make, implies-take, all-make, all-take, not-any}
 use Rattle.bits.specs.Word.{bit, members, within, meets}
 use Rattle.bits.proofs.Words.{bit-member, zero-members, same-below, and-members, xor-members}
 
@@ -43,16 +43,6 @@ beq-false : (p : Bool) → Bool·beq p false ≡ not p
 beq-false true = refl
 beq-false false = refl
 
-not-or : (p q : Bool) → not (p || q) ≡ (not p && not q)
-not-or true q = refl
-not-or false q = refl
-
--- no number below n is in X: each is outside
-pub not-any : (n : ℕ) (X : Set) → not (anyBelow n X) ≡ allBelow n (λ i. not (X i))
-unfolding anyBelow allBelow
-not-any zero X = refl
-not-any (suc n) X = not-or (X n) (anyBelow n X) ∙ ap (λ (t : Bool). not (X n) && t) (not-any n X)
-
 -- a word of k bits is zero where P holds below k, if P fails at the members alone
 zero-all : (k w : ℕ) (P : Set) → w < 2 ^ k → ((i : ℕ) → not (members w i) ≡ P i) → eqb w 0 ≡ allBelow k P
 zero-all k w P h e =
@@ -67,12 +57,8 @@ empty-any k w h = zero-all k w (λ i. not (members w i)) h (λ i. refl) ∙ sym 
 pub meets-test : (a b : ℕ) → a < 2 ^ 32 → not (eqb (bitAnd a b) 0) ≡ meets a b
 meets-test a b h =
     ap not (empty-any 32 (bitAnd a b) (lt-of-le-of-lt (and-le-l a b) h))
-    ∙ not-not (anyBelow 32 (members (bitAnd a b)))
+    ∙ Bool·not-not (anyBelow 32 (members (bitAnd a b)))
     ∙ ap (anyBelow 32) (fun-ext (λ i. and-members a b i))
-  where
-    not-not : (t : Bool) → not (not t) ≡ t
-    not-not true = refl
-    not-not false = refl
 
 -- ---- a subset: a & b is a
 

@@ -40,7 +40,7 @@ same-below k a b ha hb h =
     same-bits k a b ha hb
     (λ i l. bit-member a i ∙ ap (λ (t : Bool). cond t 1 0) (h i l) ∙ sym (bit-member b i))
 
-lt-pow : (n : ℕ) → n < 2 ^ n
+pub lt-pow : (n : ℕ) → n < 2 ^ n
 lt-pow zero = omega arith
 lt-pow (suc n) = omega (arith, lt-pow n, pow-suc 2 n)
 

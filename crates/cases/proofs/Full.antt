@@ -12,7 +12,7 @@ use Rattle.simulation.specs.Ordered.{elem, ascends, joins}
 use Rattle.simulation.proofs.Sets.{clash, refuted, same, all-make}
 use Rattle.simulation.proofs.Ordered.{Rising, elem-at, elem-index, rising-take}
 use Rattle.simulation.proofs.Pattern.{state-inside, node-inside}
-use Rattle.bits.proofs.Counts.{count-none}
+use Rattle.simulation.proofs.Loops.{count-none}
 use Rattle.session.specs.Limits.{maxNodes, maxEdges, maxChanges, fixedSize}
 use Rattle.session.specs.Trigger.{Trigger, Graph, states, nodes, edge, edgeNumber, admits, agrees, pattern}
 use Rattle.session.specs.Layout.{table, below, validTrigger}

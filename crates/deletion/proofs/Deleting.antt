@@ -14,7 +14,7 @@ use Rattle.simulation.proofs.Sets.{split, clash, refuted, implies-take, all-tak
 use Rattle.simulation.proofs.System.{swept}
 use Rattle.simulation.proofs.Pattern.{pair-whole}
 use Rattle.simulation.proofs.Terms.{joined}
-use Rattle.bits.proofs.Counts.{count-none}
+use Rattle.simulation.proofs.Loops.{count-none}
 use Rattle.session.specs.Trigger.{Trigger, Graph, Marks, states, nodes, edge, pattern}
 use Rattle.session.specs.Layout.{triggerOf, graphOf, marksOf, inLayout}
 use Rattle.session.proofs.Decoded.{Inside, LayoutFacts, layout-facts}

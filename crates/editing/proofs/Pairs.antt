@@ -6,25 +6,17 @@ use mathlib.Core.Path.{_≡_, refl, sym, _∙_, ap, fun-ext}
 use mathlib.Core.Logic.{⊎-elim}
 use mathlib.Core.Bool.{Bool, true, false}
 use mathlib.Core.List.{List}
-use lib.ListN.{getD}
-use Rattle.simulation.specs.Sets.{Set, In, none}
+use Rattle.simulation.specs.Sets.{Set, In}
 use Rattle.simulation.specs.Pattern.{pair}
 use Rattle.simulation.proofs.Sets.{same, refuted}
 use Rattle.simulation.proofs.Search.{lt-or-le}
 use Rattle.simulation.proofs.Pattern.{pair-inside, pair-whole, paired-pair, node-inside}
-use Rattle.bits.specs.Word.{members}
-use Rattle.bits.proofs.Words.{zero-members}
 use Rattle.session.specs.Trigger.{Trigger, Graph, Marks, states, nodes, pattern}
 use Rattle.session.specs.Layout.{triggerOf, graphOf}
 use Rattle.session.proofs.Decoded.{Inside}
 use Rattle.pair_tables.specs.Tables.{marked}
 use Rattle.promises.specs.Standing.{pairsOf}
 use Rattle.editing.specs.Steps.{Holds}
-
--- an empty table has no pair
-pub no-pairs : (t : Trigger) (g : Graph) (ss : List ℕ) → ((v : ℕ) → getD ss v 0 ≡ 0) → pairsOf t g (marked ss) ≡ none
-no-pairs t g ss empty =
-    fun-ext (λ p. ap (λ (w : ℕ). members w (p % states t)) (empty (p / states t)) ∙ zero-members (p % states t))
 
 module _ (t : Trigger) (g : Graph) (some : 0 < states t) where
   abbrev n : ℕ

@@ -10,22 +10,18 @@ use lib.Dec.{leb, eqb}
 use lib.ListN.{length, getD, set, take, drop, length-append, length-take, length-drop, length-set, drop-of-length-le}
 use lib.Seq.{take-all, take-append-le, take-suc-set, take-take, length-take-le, take-append-seam, take-nil, drop-cons, drop-drop, drop-set-lt}
 use borrow.Author.Tests.{eq-eqb, ne-eqb}
-use Rattle.simulation.proofs.Sets.{clash}
+use Rattle.simulation.proofs.Sets.{clash, and-none}
 use Rattle.simulation.proofs.Search.{lt-or-le}
 use Rattle.frames.specs.Digits.{hexadecimal, number}
 use Rattle.frames.specs.Frames.{Frame, nothing, spoken, frameOf}
 use Rattle.frames.specs.Lines.{linesAfter, lines, kept, gathered, Pushed, Gathers, Gathering, over-empty, over-line, line-ended, block-over}
-
-and-none : (a b : Bool) → b ≡ false → (a && b) ≡ false
-and-none true b e = e
-and-none false b e = refl
 
 -- more fields than any kind has
 spoken-long : (kind : ℕ) (ds : List ℕ) → 12 < length ds → spoken kind ds ≡ nothing
 unfolding spoken
 spoken-long kind ds l =
     let other : (n : ℕ) → n ≤ 12 → eqb (length ds) n ≡ false = λ n h. ne-eqb (length ds) n (λ e. absurd (omega arith)) in
-    let no : (k n : ℕ) → n ≤ 12 → (eqb kind k && eqb (length ds) n) ≡ false = λ k n h. and-none (eqb kind k) (eqb (length ds) n) (other n h) in
+    let no : (k n : ℕ) → n ≤ 12 → (eqb kind k && eqb (length ds) n) ≡ false = λ k n h. and-none (eqb kind k) (other n h) in
     rw (no 1 12 (omega arith), no 2 4 (omega arith), no 3 0 (omega arith), no 4 8 (omega arith), no 5 8 (omega arith), no 6 0 (omega arith))
 
 -- a line longer than any frame is none

@@ -4,7 +4,7 @@ use native.Mathlib.Nat.{lt-of-le-of-lt}
 use native.Mathlib.Omega.{arith}
 use mathlib.Core.Path.{_≡_, refl, sym, ap, ap₂, fun-ext, _∙_}
 use mathlib.Core.Logic.{⊎-elim}
-use mathlib.Core.Bool.{Bool, true, false, not, _&&_, _||_, or-false, or-assoc, or-self, and-comm}
+use mathlib.Core.Bool.{Bool, true, false, not, _&&_, _||_, or-false, or-assoc, and-comm}
 use mathlib.Core.List.{List}
 use lib.Bits.{bitAnd, and-le-l}
 use lib.Dec.{ltb, eqb}
@@ -12,7 +12,7 @@ use lib.ListN.{length, getD, set, length-set}
 use lib.Seq.{getD-set-same, getD-set-other}
 use borrow.Author.Tests.{eqb-true, eqb-false, eq-eqb, ne-eqb}
 use Rattle.simulation.specs.Sets.{Set, none, also, union, without, anyBelow}
-use Rattle.simulation.proofs.Sets.{split, same, or-l, not-take}
+use Rattle.simulation.proofs.Sets.{split, same, or-l, or-both, not-take}
 use Rattle.bits.specs.Word.{members}
 use Rattle.bits.proofs.Words.{zero-members, and-members, same-members}
 use Rattle.bits.proofs.Tests.{empty-any}
@@ -107,17 +107,11 @@ module _ {es heads nexts : List ℕ} (x : Indexed es heads nexts) (fs : List ℕ
             (λ (q : eqb w start ≡ false). rw q refl)
             (split (eqb w start))
 
-        both : (a b c d : Bool) → ((a || (b && d)) || (c && d)) ≡ (a || ((b || c) && d))
-        both true b c d = refl
-        both false true true d = or-self d
-        both false true false d = or-false d
-        both false false c d = refl
-
         words : (u w : ℕ) → marked ts'' u w ≡ (marked ts u w || (called es v (getD nexts (n - 1) 0) w && (marked fs u w && members able u)))
         words u w =
             t .words u w
             ∙ ap₂ _||_ (y .words u w) (more u w)
-            ∙ both (marked ts u w) (called es v n w) (eqb w start) (marked fs u w && members able u)
+            ∙ or-both (marked ts u w) (called es v n w) (eqb w start) (marked fs u w && members able u)
             ∙ ap (λ (b : Bool). marked ts u w || (b && (marked fs u w && members able u))) (sym (called-next x (y .chain) some w))
 
         -- words only gain states, so one that changed stays changed

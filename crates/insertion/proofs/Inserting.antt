@@ -3,7 +3,7 @@ use Prim.Native.Nat.{ℕ, _*_, _/_, _%_, _<_, _≤_}
 use native.Mathlib.Nat.{mod-lt}
 use mathlib.Core.Path.{_≡_, refl, sym, _∙_, ap, ap₂, fun-ext, subst}
 use mathlib.Core.Logic.{⊎-elim}
-use mathlib.Core.Bool.{Bool, true, false, not, _&&_, _||_}
+use mathlib.Core.Bool.{true, false, not, _&&_, _||_, or-false, or-comm}
 use mathlib.Core.List.{List}
 use lib.Dec.{eqb, ltb}
 use borrow.Author.Tests.{eqb-true, lt-ltb}
@@ -12,10 +12,9 @@ use Rattle.simulation.specs.System.{supported, refined, closure}
 use Rattle.simulation.specs.Pattern.{pair, system}
 use Rattle.simulation.proofs.Sets.{split, clash, refuted, same, and-make, and-l, and-r, or-l, or-r, or-take, not-take, count-mono}
 use Rattle.simulation.proofs.System.{refined-start, refined-inside, closure-inside, closure-domain, closure-least}
-use Rattle.simulation.proofs.Loops.{count-same}
+use Rattle.simulation.proofs.Loops.{count-same, count-none}
 use Rattle.simulation.proofs.Pattern.{paired-pair}
 use Rattle.simulation.proofs.Terms.{joined}
-use Rattle.bits.proofs.Counts.{count-none}
 use Rattle.session.specs.Trigger.{Trigger, Graph, Marks, states, nodes, linked, edge, admits, pattern}
 use Rattle.session.specs.Layout.{triggerOf, graphOf, marksOf, validMarks, inLayout}
 use Rattle.session.proofs.Valid.{marks-facts, marks-valid}
@@ -139,14 +138,8 @@ module _ (xs : List ℕ) (h : inLayout xs ≡ true) (a b : ℕ) where
           → marked all ≡ stands (triggerOf xs) (graphOf xs)
       inserted-right es one-more right =
           marks-same t g some (marked all) (stands t g) all-inside (stands-inside t g)
-          (λ p l. joined-is (p % n) (p / n) ∙ swap (marked ts' (p % n) (p / n)) (m (p % n) (p / n)) ∙ ap (λ (X : Set). X p) whole)
+          (λ p l. joined-is (p % n) (p / n) ∙ or-comm (marked ts' (p % n) (p / n)) (m (p % n) (p / n)) ∙ ap (λ (X : Set). X p) whole)
         where
-          swap : (x y : Bool) → (x || y) ≡ (y || x)
-          swap true true = refl
-          swap true false = refl
-          swap false true = refl
-          swap false false = refl
-
           g₀ : Graph
           g₀ = record { samples = g .samples; edges = es }
 
@@ -171,13 +164,9 @@ module _ (xs : List ℕ) (h : inLayout xs ≡ true) (a b : ℕ) where
           fun-ext
           (λ p. refuted (refined (system (pattern t g)) (markedPairs xs) none p) (λ e. clash (refined-start (system (pattern t g)) (markedPairs xs) none p e) refl))
 
-      or-none : (x : Bool) → x ≡ (x || false)
-      or-none true = refl
-      or-none false = refl
-
       grows : markedPairs xs ≡ union (markedPairs xs) (refined (system (pattern t g)) (markedPairs xs) (trialSet t g m a b))
       grows =
-          fun-ext (λ p. or-none (markedPairs xs p))
+          fun-ext (λ p. sym (or-false (markedPairs xs p)))
           ∙ ap (union (markedPairs xs)) (sym nothing ∙ ap (refined (system (pattern t g)) (markedPairs xs)) (sym (trial-none empty)))
 
       whole : union (markedPairs xs) (refined (system (pattern t g)) (markedPairs xs) (trialSet t g m a b)) ≡ pairsOf t g (stands t g)

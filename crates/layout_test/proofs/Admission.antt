@@ -9,11 +9,11 @@ use lib.Dec.{eqb}
 use lib.ListN.{length, getD}
 use lib.Pow.{pow-pos}
 use Rattle.simulation.specs.Sets.{Set}
-use Rattle.simulation.proofs.Sets.{clash, split, refuted, or-l, not-make, any-make, all-make}
+use Rattle.simulation.proofs.Sets.{clash, split, refuted, or-l, not-make, any-make, all-make, not-any}
 use Rattle.simulation.proofs.Edges.{all-same}
 use Rattle.bits.specs.Word.{bit, members}
 use Rattle.bits.proofs.Words.{zero-members, and-again}
-use Rattle.bits.proofs.Tests.{not-any, masked, masked-equal}
+use Rattle.bits.proofs.Tests.{masked, masked-equal}
 use Rattle.bits.proofs.Gathers.{gathers}
 use Rattle.session.specs.Limits.{wordBits}
 use Rattle.session.specs.Trigger.{Trigger, Graph, agrees, admits}

@@ -15,7 +15,7 @@ use Rattle.simulation.specs.Ordered.{elem}
 use Rattle.simulation.proofs.Sets.{clash, split, same, refuted, or-l, or-r, or-take, count-le, count-full}
 use Rattle.simulation.proofs.Ordered.{elem-head, elem-tail, elem-take, elem-append}
 use Rattle.simulation.proofs.Loops.{count-same}
-use Rattle.bits.proofs.Counts.{count-none, count-also}
+use Rattle.simulation.proofs.Loops.{count-none, count-also}
 use Rattle.session.specs.Trigger.{Trigger, states, linked}
 use Rattle.listing.specs.Order.{fold, visit, order}
 

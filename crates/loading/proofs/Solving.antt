@@ -16,17 +16,17 @@ use Rattle.simulation.proofs.Pattern.{pair-inside, paired-pair, best-make, best
 use Rattle.bits.specs.Word.{members}
 use Rattle.bits.proofs.Words.{zero-members, full-members}
 use Rattle.session.specs.Limits.{maxNodes, wordBits}
-use Rattle.session.specs.Trigger.{Trigger, Graph, states, nodes, admits, agrees, pattern}
+use Rattle.session.specs.Trigger.{Trigger, Graph, Marks, states, nodes, admits, agrees, pattern}
 use Rattle.session.specs.Layout.{triggerOf, graphOf, inLayout}
 use Rattle.session.proofs.Valid.{TriggerFacts, GraphFacts}
 use Rattle.session.proofs.Decoded.{LayoutFacts, layout-facts}
 use Rattle.pair_tables.specs.Tables.{marked, Admitted}
+use Rattle.pair_tables.proofs.Tabling.{marked-none}
 use Rattle.worklist.specs.Waiting.{waits}
 use Rattle.refinement.specs.Refining.{Settled}
 use Rattle.promises.specs.Standing.{stands, size, pairsOf}
 use Rattle.promises.proofs.Stands.{stands-inside}
 use Rattle.refinement.proofs.Systems.{settled-refined}
-use Rattle.editing.proofs.Pairs.{no-pairs}
 use Rattle.loading.specs.Solved.{Solved}
 
 module _ (t : Trigger) (g : Graph) (tf : TriggerFacts t) (gf : GraphFacts g) where
@@ -62,18 +62,14 @@ module _ (t : Trigger) (g : Graph) (tf : TriggerFacts t) (gf : GraphFacts g) whe
       T : List ℕ → Set
       T xs = paired (pattern t g) (marked xs)
 
-      -- no pair is settled before
-      no-settled : paired (pattern t g) (marked ss) ≡ none
-      no-settled = no-pairs t g ss empty
-
-      -- what is left is refined from all that is admitted
+      -- what is left is refined from all that is admitted: no pair is settled before
       left : (p : ℕ) → p < nodes g * states t → T ts p ≡ refined s none (T ts₀) p
       unfolding T
       left p l =
           settled-refined t g tf gf ss ts₀ ws ts settled
           (λ q k h idle. clash (all-wait (q / n) (omega (arith, gf .few, node-inside (pattern t g) q k))) idle)
           p l
-          ∙ ap (λ (X : Set). refined s X (paired (pattern t g) (marked ts₀)) p) no-settled
+          ∙ ap (λ (m : Marks). refined s (paired (pattern t g) m) (paired (pattern t g) (marked ts₀)) p) (marked-none ss empty)
 
       refined-greatest : refined s none (T ts₀) ≡ greatest s
       unfolding T

@@ -14,10 +14,9 @@ use lib.Seq.{getD-set-same, getD-set-other}
 use borrow.Author.Tests.{ltb-false, le-ltb, eqb-true, eqb-false, eq-eqb, ne-eqb}
 use Rattle.simulation.specs.Sets.{Set, count}
 use Rattle.simulation.proofs.Sets.{split, count-le}
-use Rattle.simulation.proofs.Loops.{count-same, total, count-rows}
+use Rattle.simulation.proofs.Loops.{count-same, count-beyond, total, count-rows}
 use Rattle.bits.specs.Word.{members}
 use Rattle.bits.proofs.Words.{zero-members}
-use Rattle.bits.proofs.Counts.{count-beyond}
 use Rattle.session.specs.Trigger.{agrees}
 use Rattle.pair_tables.specs.Tables.{marked}
 use Rattle.simulation.proofs.Gains.{more-here, more-other}
@@ -26,6 +25,10 @@ use Rattle.pair_tables.proofs.Admitting.{agrees-test}
 -- words of zero mark nothing
 pub marked-none : (ts : List ℕ) → ((v : ℕ) → getD ts v 0 ≡ 0) → marked ts ≡ (λ u v. false)
 marked-none ts h = fun-ext (λ u. fun-ext (λ v. ap (λ (w : ℕ). members w u) (h v) ∙ zero-members u))
+
+-- nor does a table past its end
+pub unmarked : (ts : List ℕ) (u v : ℕ) → length ts ≤ v → marked ts u v ≡ false
+unmarked ts u v h = ap (λ (w : ℕ). members w u) (List·getD-eq-default ts 0 h) ∙ zero-members u
 
 module _ (masks values : List ℕ) (sample : ℕ) where
   abbrev pub admitting : Set
@@ -78,9 +81,6 @@ module _ (op : Bool → Bool → Bool) (ts os : List ℕ) where
         × ((u v : ℕ) → marked ts' u v ≡ op (marked ts u v) (marked os u v))
     changed-end off same l = (c .long, λ u v. c .words u v ∙ ⊎-elim (λ (t : ltb v k ≡ true). rw t refl) (λ (t : ltb v k ≡ false). rest u v t) (split (ltb v k)))
       where
-        unmarked : (xs : List ℕ) (u v : ℕ) → length xs ≤ v → marked xs u v ≡ false
-        unmarked xs u v h = ap (λ (x : ℕ). members x u) (List·getD-eq-default xs 0 h) ∙ zero-members u
-
         rest : (u v : ℕ) → ltb v k ≡ false
             → cond (ltb v k) (op (marked ts u v) (marked os u v)) (marked ts u v) ≡ op (marked ts u v) (marked os u v)
         rest u v t =

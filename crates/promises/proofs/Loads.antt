@@ -12,7 +12,7 @@ use lib.ListN.{length, getD, length-map, List·getD-map}
 use borrow.Author.Tests.{ltb-true, ltb-false, lt-ltb, le-ltb, eqb-true, eqb-false, eq-eqb, ne-eqb, not-false}
 use Rattle.simulation.specs.Sets.{allBelow}
 use Rattle.simulation.specs.Ordered.{elem, ascends}
-use Rattle.simulation.proofs.Sets.{and-make, and-l, and-r, or-l, or-r, or-false-l, or-false-r, or-take, all-make, all-take, split}
+use Rattle.simulation.proofs.Sets.{and-make, and-l, and-r, or-l, or-r, or-none, or-false-l, or-false-r, or-take, all-make, all-take, split}
 use Rattle.simulation.proofs.Ordered.{Rising, elem-at, elem-index, rising-take, ascending}
 use Rattle.session.specs.Limits.{maxStates, maxNodes, maxEdges, maxChanges, fixedSize, wordBits}
 use Rattle.session.specs.Trigger.{states, nodes, edgeNumber}
@@ -22,12 +22,6 @@ use Rattle.session.proofs.Valid.{TriggerFacts, GraphFacts}
 use Rattle.promises.specs.Rules.{verdict, Given, givenTrigger, givenGraph, precedes, loadRules}
 use Rattle.promises.specs.Model.{Model, freshly}
 use Rattle.promises.proofs.Verdicts.{verdict-skip, verdict-pass, verdict-none}
-
-or-false : {a b : Bool} → a ≡ false → b ≡ false → (a || b) ≡ false
-or-false p q = rw (p, q)
-
-not-makes : {b : Bool} → b ≡ true → not b ≡ false
-not-makes p = rw p
 
 -- (a, b) is before (c, d) just where its number is smaller
 precedes-less : (a b c d : ℕ) → b < maxNodes → precedes a b c d ≡ true → edgeNumber a b < edgeNumber c d
@@ -170,7 +164,7 @@ module _ (memory room : ℕ) (x : Given) (ok : verdict (loadRules memory room x)
   -- a load that breaks no rule breaks none in any room that is long enough
   pub load-elsewhere : (room' : ℕ) → maxChanges ≤ room' → verdict (loadRules memory room' x) ≡ 0
   load-elsewhere room' wide =
-      verdict-skip 3 (ltb memory fixedSize || ltb room' maxChanges) _ (or-false (le-ltb memory fixedSize load-long) (le-ltb room' maxChanges wide))
+      verdict-skip 3 (ltb memory fixedSize || ltb room' maxChanges) _ (or-none (le-ltb memory fixedSize load-long) (le-ltb room' maxChanges wide))
       ∙ verdict-pass 3 (ltb memory fixedSize || ltb room maxChanges) _ (omega arith) ok .1
 
   codes-rise : Rising (table e code)
@@ -227,23 +221,23 @@ module _ (b : Model) (tf : TriggerFacts (b .trigger)) (gf : GraphFacts (b .graph
   pub fresh-accepted : (memory room : ℕ) → fixedSize ≤ memory → maxChanges ≤ room → verdict (loadRules memory room (freshly b)) ≡ 0
   fresh-accepted memory room long wide =
       verdict-none (loadRules memory room (freshly b)) (
-        or-false (le-ltb memory fixedSize long) (le-ltb room maxChanges wide),
+        or-none (le-ltb memory fixedSize long) (le-ltb room maxChanges wide),
         (
-          or-false
-              (or-false (ne-eqb n 0 (λ z. absurd (omega (arith, tf .some)))) (le-ltb maxStates n (tf .few)))
-              (or-false (not-makes (eq-eqb _ n (tf .values))) (not-makes (eq-eqb _ n (tf .links)))),
+          or-none
+              (or-none (ne-eqb n 0 (λ z. absurd (omega (arith, tf .some)))) (le-ltb maxStates n (tf .few)))
+              (or-none (ap not (eq-eqb _ n (tf .values))) (ap not (eq-eqb _ n (tf .links)))),
           (
-            not-makes (tf .links-fit),
+            ap not (tf .links-fit),
             (
               le-ltb maxNodes (nodes (b .graph)) (gf .few),
               (
-                or-false (le-ltb maxEdges m (omega (arith, gf .few-edges, starts-long))) (not-makes (eq-eqb (length (freshly b .ends)) m (ends-long ∙ sym starts-long))),
+                or-none (le-ltb maxEdges m (omega (arith, gf .few-edges, starts-long))) (ap not (eq-eqb (length (freshly b .ends)) m (ends-long ∙ sym starts-long))),
                 (
-                  not-makes (and-make
+                  ap not (and-make
                       (below-make (nodes (b .graph)) (freshly b .starts) (λ k l. rw (start-at k) (gf .starts (getD es k 0) (elem-at es k (omega (arith, starts-long))))))
                       (below-make (nodes (b .graph)) (freshly b .ends) (λ k l. rw (end-at k) (gf .ends (getD es k 0) (elem-at es k (omega (arith, ends-long))))))),
                   (
-                    not-makes (all-make (m - 1) row-ascends
+                    ap not (all-make (m - 1) row-ascends
                         (λ k l.
                         rw (start-at k, end-at k, start-at (suc k), end-at (suc k))
                         (less-precedes (getD es k 0) (getD es (suc k) 0) (ascending es (gf .rising) k (suc k) (omega arith) (omega (arith, starts-long)))))),

@@ -1,6 +1,6 @@
 -- Refinement node by node: one look at a node keeps the refined set, and what does not wait stays supported.
-use Prim.Native.Nat.{ℕ, zero, suc, _+_, _-_, _*_, _/_, _%_, _^_, _<_, _≤_}
-use native.Mathlib.Nat.{mod-lt, div-lt-iff-lt-mul, pow-suc}
+use Prim.Native.Nat.{ℕ, _+_, _-_, _*_, _/_, _%_, _^_, _<_, _≤_}
+use native.Mathlib.Nat.{mod-lt, div-lt-iff-lt-mul}
 use native.Mathlib.Omega.{arith}
 use mathlib.Core.Path.{_≡_, refl, sym, _∙_, ap, ap₂, fun-ext, subst}
 use mathlib.Core.Logic.{_⊎_, inl, inr, ⊎-elim}
@@ -10,7 +10,7 @@ use lib.Dec.{ltb, eqb}
 use lib.ListN.{length, getD, take, drop, length-take, length-drop}
 use lib.Pow.{pow-mono}
 use lib.Seq.{getD-take, getD-drop}
-use borrow.Author.Tests.{ltb-true, lt-ltb, eqb-true, eqb-false, eq-eqb, ne-eqb}
+use borrow.Author.Tests.{ltb-true, lt-ltb, eqb-true, eqb-false, eq-eqb, ne-eqb, not-false}
 use Rattle.simulation.specs.Sets.{Set, In, union, without, anyBelow, allBelow, count}
 use Rattle.simulation.specs.Search.{first, found}
 use Rattle.simulation.specs.Ordered.{elem, from, leads, joins}
@@ -24,7 +24,7 @@ use Rattle.simulation.proofs.Search.{found-make, found-take, first-at, first-be
 use Rattle.simulation.proofs.Ordered.{Rising, rising-take, elem-at, elem-index}
 use Rattle.simulation.proofs.Edges.{all-same, elem-joins, joins-elem, from-le, from-mono, supported-edges}
 use Rattle.bits.specs.Word.{members, meets}
-use Rattle.bits.proofs.Words.{same-below}
+use Rattle.bits.proofs.Words.{same-below, lt-pow}
 use Rattle.session.specs.Limits.{maxNodes}
 use Rattle.pair_tables.specs.Tables.{marked}
 use Rattle.links.specs.Links.{linksTo}
@@ -71,10 +71,6 @@ range-found X es i n l h = same (found part 0 (length xs)) (found test i n) ther
         (subst (λ (x : ℕ). X x ≡ true) (sym (at-part (j - i) m ∙ ap (λ (y : ℕ). getD es y 0) whole-index)) (r .3))
 
 -- a word with fewer members than another lacks one of them
-below-power : (w : ℕ) → w < 2 ^ w
-below-power zero = omega arith
-below-power (suc w) = omega (arith, below-power w, pow-suc 2 w)
-
 pub fewer : (a b : ℕ) → ((u : ℕ) → members b u ≡ true → members a u ≡ true) → (b ≡ a → ⊥) → (u : ℕ) × (members a u ≡ true) × (members b u ≡ false)
 fewer a b sub ne = ⊎-elim some none (split (anyBelow k test))
   where
@@ -96,7 +92,7 @@ fewer a b sub ne = ⊎-elim some none (split (anyBelow k test))
         let wide : 2 ^ b ≤ 2 ^ k = pow-mono (omega arith) in
         absurd
         (ne
-        (same-below k b a (omega (arith, below-power b)) (omega (arith, below-power a))
+        (same-below k b a (omega (arith, lt-pow b)) (omega (arith, lt-pow a))
         (λ i l.
         same (members b i) (members a i) (sub i)
         (λ e. ⊎-elim (λ q. q) (λ q. clash (any-make k test i l (and-make e (not-make q))) h) (split (members b i))))))
@@ -217,11 +213,7 @@ module _ (nodes : ℕ) (links es : List ℕ) (sound : Sound nodes links es) wher
 
       same-word : changed ≡ false → getD ts' v 0 ≡ getD ts v 0
       unfolding changed
-      same-word h = eqb-true (getD ts' v 0) (getD ts v 0) (not-off (eqb (getD ts' v 0) (getD ts v 0)) h)
-        where
-          not-off : (b : Bool) → not b ≡ false → b ≡ true
-          not-off true k = refl
-          not-off false k = clash refl k
+      same-word h = eqb-true (getD ts' v 0) (getD ts v 0) (not-false (eqb (getD ts' v 0) (getD ts v 0)) h)
 
       -- where the word stays, the table does
       same-table : changed ≡ false → T ts' ≡ T ts

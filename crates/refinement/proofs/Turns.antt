@@ -2,13 +2,13 @@
 use Prim.Native.Nat.{ℕ, _<_}
 use native.Mathlib.Omega.{arith}
 use mathlib.Core.Path.{_≡_, refl, sym, _∙_, ap}
-use mathlib.Core.Bool.{Bool, true, false, not, _&&_, _||_, and-false, or-false}
+use mathlib.Core.Bool.{Bool, true, false, _&&_, _||_, or-false, and-not-self}
 use mathlib.Core.Path.{fun-ext}
 use mathlib.Core.List.{List}
 use lib.ListN.{length, getD, set, length-set}
 use lib.Seq.{getD-set-same, getD-set-other}
 use Rattle.simulation.specs.Sets.{Set, minus, without, anyBelow}
-use Rattle.simulation.proofs.Sets.{clash, refuted, any-take}
+use Rattle.simulation.proofs.Sets.{clash, refuted, and-none, any-take}
 use Rattle.bits.specs.Word.{members, meets}
 use Rattle.bits.proofs.Words.{zero-members}
 use Rattle.session.specs.Limits.{maxNodes}
@@ -67,21 +67,16 @@ module _ (links es ss ts ws : List ℕ) (v : ℕ) (inside : v < length ts) (ws�
     others = λ w away. refl;
     here = ap members (sym e) ∙ kept;
     gone = 0;
-    went = fun-ext (λ u. zero-members u ∙ sym (and-not (members (getD ts v 0) u)));
+    went = fun-ext (λ u. zero-members u ∙ sym (and-not-self (members (getD ts v 0) u)));
     waiting = out
         ∙ fun-ext
         (λ w.
         sym
         (ap (λ (b : Bool). without (waits ws) v w || b)
-        (ap (λ (X : Set). precedes es v w && anyBelow 32 X) (fun-ext (λ u. ap (λ (b : Bool). members (getD ts w 0) u && b) (links-none links u) ∙ and-false (members (getD ts w 0) u)))
-        ∙ ap (λ (b : Bool). precedes es v w && b) (any-none 32)
-        ∙ and-false (precedes es v w))
+        (ap (λ (X : Set). precedes es v w && anyBelow 32 X) (fun-ext (λ u. and-none (members (getD ts w 0) u) (links-none links u)))
+        ∙ and-none (precedes es v w) (any-none 32))
         ∙ or-false (without (waits ws) v w)));
   }
     where
-      and-not : (b : Bool) → (b && not b) ≡ false
-      and-not true = refl
-      and-not false = refl
-
       any-none : (k : ℕ) → anyBelow k (λ u. false) ≡ false
       any-none k = refuted (anyBelow k (λ u. false)) (λ h. clash (any-take k (λ u. false) h .2) refl)

@@ -6,19 +6,20 @@ use mathlib.Core.Logic.{⊎-elim}
 use mathlib.Core.Bool.{true, _&&_}
 use mathlib.Core.List.{List}
 use lib.Dec.{ltb}
-use lib.ListN.{length, getD, take, drop, length-take, length-drop, List·getD-eq-default}
+use lib.ListN.{length, getD, take, drop, length-take, length-drop}
 use lib.Seq.{getD-take, getD-drop}
 use borrow.Author.Tests.{lt-ltb}
 use Rattle.simulation.proofs.Sets.{same, refuted, and-make, and-r}
 use Rattle.simulation.proofs.Search.{lt-or-le}
 use Rattle.bits.specs.Word.{members}
-use Rattle.bits.proofs.Words.{word-members, zero-members}
+use Rattle.bits.proofs.Words.{word-members}
 use Rattle.session.specs.Trigger.{Trigger, Graph, states, nodes}
 use Rattle.session.specs.Layout.{table, section, markWord, triggerOf, graphOf, marksOf, inLayout}
 use Rattle.session.proofs.Tables.{table-of}
 use Rattle.session.proofs.Decoded.{LayoutFacts, layout-facts, layout-limits, layout-whole}
 use Rattle.session.proofs.Image.{mark-word}
 use Rattle.pair_tables.specs.Tables.{marked}
+use Rattle.pair_tables.proofs.Tabling.{unmarked}
 
 -- the part that begins at p and has k words
 pub part-is : (xs : List ℕ) (p k : ℕ) → take (p + k - p) (drop p xs) ≡ take k (drop p xs)
@@ -65,6 +66,5 @@ module _ (xs : List ℕ) (h : inLayout xs ≡ true) where
 
       far : (u v : ℕ) → 512 ≤ v → marked (take 512 (drop 2611 xs)) u v ≡ marksOf xs u v
       far u v l =
-          ap (λ (w : ℕ). members w u) (List·getD-eq-default (take 512 (drop 2611 xs)) 0 (omega (arith, length-take 512 (drop 2611 xs))))
-          ∙ zero-members u
+          unmarked (take 512 (drop 2611 xs)) u v (omega (arith, length-take 512 (drop 2611 xs)))
           ∙ sym (refuted (marksOf xs u v) (λ e. absurd (omega (arith, facts .inside u v e .1, facts .graph .few))))

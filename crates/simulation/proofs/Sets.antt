@@ -4,7 +4,7 @@ use native.Mathlib.Nat.{not-suc-le-zero}
 use native.Mathlib.Omega.{arith}
 use mathlib.Core.Path.{_≡_, refl, sym, _∙_, ap}
 use mathlib.Core.Logic.{_⊎_, inl, inr, ⊎-elim}
-use mathlib.Core.Bool.{Bool, true, false, not, _&&_, _||_, cond, and-false, true≢false}
+use mathlib.Core.Bool.{Bool, true, false, not, _&&_, _||_, cond, and-false, or-assoc, and-or-distrib-right, true≢false}
 use lib.Dec.{ltb, eqb}
 use borrow.Author.Tests.{ltb-true, lt-ltb, eqb-true, eqb-false}
 use Rattle.simulation.specs.Sets.{Set, In, none, anyBelow, allBelow, count, down, shrunk, up, grown}
@@ -38,12 +38,18 @@ pub and-r : (a b : Bool) → (a && b) ≡ true → b ≡ true
 and-r true b h = h
 and-r false b h = clash h refl
 
+pub and-none : (a : Bool) {b : Bool} → b ≡ false → (a && b) ≡ false
+and-none a p = rw p (and-false a)
+
 pub or-l : {a : Bool} (b : Bool) → a ≡ true → (a || b) ≡ true
 or-l b p = rw p
 
 pub or-r : (a : Bool) {b : Bool} → b ≡ true → (a || b) ≡ true
 or-r true p = refl
 or-r false p = p
+
+pub or-none : {a b : Bool} → a ≡ false → b ≡ false → (a || b) ≡ false
+or-none p q = rw (p, q)
 
 pub or-false-l : (a b : Bool) → (a || b) ≡ false → a ≡ false
 or-false-l true b h = h
@@ -52,6 +58,9 @@ or-false-l false b h = refl
 pub or-false-r : (a b : Bool) → (a || b) ≡ false → b ≡ false
 or-false-r true b h = clash refl h
 or-false-r false b h = h
+
+pub or-both : (a b c d : Bool) → ((a || (b && d)) || (c && d)) ≡ (a || ((b || c) && d))
+or-both a b c d = or-assoc a (b && d) (c && d) ∙ ap (λ (x : Bool). a || x) (sym (and-or-distrib-right b c d))
 
 pub or-take : (a b : Bool) → (a || b) ≡ true → (a ≡ true) ⊎ (b ≡ true)
 or-take true b h = inl refl
@@ -131,6 +140,16 @@ all-false (suc n) f h =
     (λ e. let r = all-false n f (rw e at h) in (r .0, omega arith, r .2))
     (λ e. (n, omega arith, e))
     (split (f n))
+
+not-or : (p q : Bool) → not (p || q) ≡ (not p && not q)
+not-or true q = refl
+not-or false q = refl
+
+-- no number below n is in the set: each is outside
+pub not-any : (n : ℕ) (f : Set) → not (anyBelow n f) ≡ allBelow n (λ q. not (f q))
+unfolding anyBelow allBelow
+not-any zero f = refl
+not-any (suc n) f = not-or (f n) (anyBelow n f) ∙ ap (λ (b : Bool). not (f n) && b) (not-any n f)
 
 -- ---- counting
 
@@ -236,7 +255,7 @@ module _ (n : ℕ) (F : Set → Set) (T : Set) where
         go c (inr e) =
             let r = all-false n test e in
             let w = implies-false (now (r .0)) (F now (r .0)) (r .2) in
-            let lost : down n F T (suc k) (r .0) ≡ false = rw (w .1) (and-false (now (r .0))) in
+            let lost : down n F T (suc k) (r .0) ≡ false = and-none (now (r .0)) (w .1) in
             inr (omega (arith, count-drop n (down n F T (suc k)) now (λ p. and-l (now p) (F now p)) (r .0) (r .1) (w .0) lost))
 
     pub shrunk-holds : (p : ℕ) → In (shrunk n F T) p → In (F (shrunk n F T)) p

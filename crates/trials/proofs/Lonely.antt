@@ -3,7 +3,7 @@ use Prim.Native.Nat.{ℕ, _+_, _*_, _/_, _%_, _<_, _≤_}
 use native.Mathlib.Numerals.{add-one}
 use native.Mathlib.Omega.{arith}
 use mathlib.Core.Path.{_≡_, refl, sym, _∙_, ap, ap₂, fun-ext, subst}
-use mathlib.Core.Bool.{Bool, true, false, not, _&&_, _||_}
+use mathlib.Core.Bool.{Bool, true, false, not, _&&_, _||_, and-assoc}
 use mathlib.Core.List.{List}
 use lib.Dec.{eqb, ltb}
 use lib.ListN.{length, getD, set, take, drop, length-set}
@@ -55,15 +55,11 @@ module _ (xs : List ℕ) (h : inLayout xs ≡ true) where
       able-at : (u : ℕ) → members able u ≡ (ltb u (states (triggerOf xs)) && admits (triggerOf xs) (graphOf xs) u v)
       able-at u = rw (masks-is, values-is, samples-is) at (ap (λ (X : Set). X u) able-is)
 
-      assoc : (a b c : Bool) → ((a && b) && c) ≡ (a && (b && c))
-      assoc true b c = refl
-      assoc false b c = refl
-
       at : (u : ℕ) → members new u ≡ (ltb u (states (triggerOf xs)) && fresh (triggerOf xs) (graphOf xs) (marksOf xs) u v)
       at u =
           ap (λ (X : Set). X u) new-is
           ∙ ap₂ (λ (x : Bool) (m : Marks). x && not (m u v)) (able-at u) (ap marked ms-is ∙ held-marks xs h)
-          ∙ assoc (ltb u (states t)) (admits t g u v) (not (marksOf xs u v))
+          ∙ and-assoc (ltb u (states t)) (admits t g u v) (not (marksOf xs u v))
 
   -- ---- the first k edges: none that ends at a starts where a state of the word is fresh
 

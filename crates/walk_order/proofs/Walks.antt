@@ -13,7 +13,7 @@ use Rattle.simulation.proofs.Sets.{count-le}
 use Rattle.simulation.proofs.Ordered.{elem-append}
 use Rattle.bits.specs.Word.{members}
 use Rattle.bits.proofs.Words.{zero-members}
-use Rattle.bits.proofs.Counts.{count-none, count-also}
+use Rattle.simulation.proofs.Loops.{count-none, count-also}
 use Rattle.session.specs.Layout.{table, section}
 use Rattle.session.specs.Trigger.{linked}
 use Rattle.listing.specs.Order.{fold, visit, order}

@@ -3,13 +3,13 @@ use Prim.Native.Nat.{ℕ, _+_, _-_, _/_, _%_, _<_}
 use native.Mathlib.Numerals.{add-one}
 use mathlib.Core.Path.{_≡_, refl, sym, ap, subst, fun-ext, _∙_}
 use mathlib.Core.Logic.{⊎-elim}
-use mathlib.Core.Bool.{Bool, true, false, _&&_, _||_, or-false}
+use mathlib.Core.Bool.{Bool, true, false, _&&_, _||_, or-false, or-comm}
 use mathlib.Core.List.{List}
 use lib.Dec.{eqb}
 use lib.ListN.{length, getD}
 use borrow.Author.Tests.{eqb-true, eqb-false, eq-eqb, ne-eqb}
 use Rattle.simulation.specs.Sets.{Set, anyBelow, also}
-use Rattle.simulation.proofs.Sets.{clash, split, refuted, and-l, and-r}
+use Rattle.simulation.proofs.Sets.{clash, split, refuted, and-l, and-r, or-both}
 use Rattle.worklist.specs.Waiting.{waits}
 use Rattle.edge_indexes.specs.Indexes.{endsAt, Indexed, precedes}
 use Rattle.edge_indexes.proofs.Incoming.{called, called-all, Chained, chained-head, called-head, chained-next, called-next}
@@ -40,15 +40,8 @@ module _ {es heads nexts : List ℕ} (x : Indexed es heads nexts) (P : Set) wher
     one-more : (w : ℕ) → (waits ws w || (called es v (getD nexts (n - 1) 0) w && P w)) ≡ (waits ws' w || (eqb w start && P w))
     one-more w =
         ap (λ (b : Bool). waits ws w || (b && P w)) (called-next x (y .chain) some w)
-        ∙ spread (waits ws w) (called es v n w) (eqb w start) (P w)
+        ∙ sym (or-both (waits ws w) (called es v n w) (eqb w start) (P w))
         ∙ ap (λ (X : Set). X w || (eqb w start && P w)) (sym (y .waiting))
-      where
-        spread : (a b c d : Bool) → (a || ((b || c) && d)) ≡ ((a || (b && d)) || (c && d))
-        spread true b c d = refl
-        spread false true c true = refl
-        spread false true true false = refl
-        spread false true false false = refl
-        spread false false c d = refl
 
     -- the start of the edge passes and is put in, or fails
     pub calling-more : {ws'' : List ℕ} → P start ≡ true → waits ws'' ≡ also (waits ws') start → Calling es P v ws ws'' (getD nexts (n - 1) 0)
@@ -99,17 +92,9 @@ module _ (es : List ℕ) (P : Set) (v : ℕ) where
       ∙ fun-ext
       (λ w.
       ap (λ (X : Set). X w || ((endsAt es v k && eqb (getD es k 0 / 512) w) && P w)) e
-      ∙ join (waits ws w) (leadsTo k w) (endsAt es v k && eqb (getD es k 0 / 512) w) (P w)
+      ∙ or-both (waits ws w) (leadsTo k w) (endsAt es v k && eqb (getD es k 0 / 512) w) (P w)
+      ∙ ap (λ (b : Bool). waits ws w || (b && P w)) (or-comm (leadsTo k w) (endsAt es v k && eqb (getD es k 0 / 512) w))
       ∙ ap (λ (n : ℕ). waits ws w || (leadsTo n w && P w)) (sym (add-one k)))
-    where
-      join : (a b c d : Bool) → ((a || (b && d)) || (c && d)) ≡ (a || ((c || b) && d))
-      join true b c d = refl
-      join false true true true = refl
-      join false true true false = refl
-      join false true false true = refl
-      join false true false false = refl
-      join false false true d = refl
-      join false false false d = refl
 
   pub leads-all : (w : ℕ) → leadsTo (length es) w ≡ precedes es v w
   unfolding precedes
