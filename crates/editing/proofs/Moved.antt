@@ -1,14 +1,14 @@
 -- The session once the edge is put in or taken out, and once its marks are stored.
 use Prim.Native.Nat.{ℕ, _≤_}
 use native.Mathlib.Omega.{arith}
-use mathlib.Core.Path.{_≡_, refl, sym, _∙_, ap, ap₂, subst}
+use mathlib.Core.Path.{_≡_, refl, _∙_, ap}
 use mathlib.Core.Bool.{Bool, true, false}
 use mathlib.Core.List.{List, _++_}
 use lib.ListN.{length, take, drop, length-append, length-drop}
 use Rattle.simulation.proofs.Sets.{clash}
 use Rattle.session.specs.Limits.{fixedSize}
 use Rattle.session.specs.Trigger.{Trigger, Graph, Marks, nodes, admits}
-use Rattle.session.specs.Layout.{section, image, triggerOf, graphOf, marksOf, validMarks, inLayout}
+use Rattle.session.specs.Layout.{image, triggerOf, graphOf, marksOf, validMarks, inLayout}
 use Rattle.session.proofs.Valid.{TriggerFacts, GraphFacts}
 use Rattle.session.proofs.Image.{length-image, drop-image}
 use Rattle.session.proofs.Decoded as decoded
@@ -19,7 +19,7 @@ use Rattle.promises.specs.Rules.{Kind, insertion, deletion, edited, graphRules,
 use Rattle.promises.specs.Promises.{Left, Free, trialCount, Done}
 use Rattle.promises.proofs.Edits.{edited-facts}
 use Rattle.session_parts.specs.Inside.{Inside}
-use Rattle.session_parts.proofs.Parts.{saved-marks, held-marks}
+use Rattle.session_parts.proofs.Parts.{held-marks}
 use Rattle.editing.specs.Steps.{Saved}
 
 -- a session that is left with something is as long as before
@@ -93,9 +93,6 @@ module _ (k : Kind) (xs : List ℕ) (a b : ℕ) (h : inLayout xs ≡ true) (ok :
     moved-layout = left-layout m was-inside xs₁ moved was-valid
 
     -- the marks that were, saved before they change; where they do not, there is nothing to save
-    pub moved-saved : (n : ℕ) (ms bs : List ℕ) → n ≡ 512 → ms ≡ take 512 (drop 2611 xs₁) → bs ≡ section n ms → bs ≡ take 512 (drop 2611 xs₁)
-    moved-saved n ms bs long full e = e ∙ ap₂ section long full ∙ saved-marks xs₁ moved-layout
-
     pub saved-calm : (bs : List ℕ) → Saved xs xs₁ bs true
     saved-calm bs = record { same = λ e. moved-marks; saved = λ e. clash refl e }
 

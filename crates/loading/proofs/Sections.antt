@@ -6,17 +6,13 @@ use mathlib.Core.Bool.{false}
 use mathlib.Core.List.{List, [], _∷_, _++_, append-assoc}
 use lib.ListN.{length, set, take, drop, length-append, length-take, length-drop}
 use lib.Seq.{drop-at}
-use borrow.Rule.Slice.PartMut.{putMid, same-len-mid}
+use borrow.Rule.Slice.PartMut.{putMid}
 use Rattle.session.specs.Limits.{fixedSize}
 use Rattle.session.specs.Layout.{table, section, markWord, image}
 use Rattle.session.specs.Tests.{numbered}
 use Rattle.session.proofs.Tables.{length-section, length-table}
 use Rattle.session.proofs.Stores.{front, image-front, no-marks, write-counts, put-section}
 use Rattle.promises.specs.Rules.{Given, givenTrigger, givenGraph}
-
--- a section that is filled leaves the memory as long as it was
-pub fill-length : (xs source part : List ℕ) (p k : ℕ) → part ≡ section (length (take k (drop p xs))) source → length (putMid p k xs part) ≡ length xs
-fill-length xs source part p k f = same-len-mid p k xs part (ap length f ∙ length-section (length (take k (drop p xs))) source)
 
 -- one section is filled from a source
 filled : (ys xs written source part : List ℕ) (p k : ℕ) → xs ≡ written ++ drop p ys → length written ≡ p → p + k ≤ length ys

@@ -75,10 +75,7 @@ pub fn write_sections(
         starts,
         ends,
     );
-    sections::fill_words(
-        &mut session[session::MARKS_AT..session::FIXED_SIZE],
-        &links[..0],
-    );
+    sections::clear(&mut session[session::MARKS_AT..session::FIXED_SIZE]);
 }
 
 // Loads a trigger and a graph: a list for each field.

@@ -90,43 +90,48 @@ module _ (memory room : ℕ) (x : Given) (ok : verdict (loadRules memory room x)
   pub load-room : maxChanges ≤ room
   load-room = ltb-false room maxChanges (or-false-r (ltb memory fixedSize) (ltb room maxChanges) (passed .memory-fits))
 
+  states-whole : ((eqb n 0 || ltb maxStates n) ≡ false) × ((not (eqb (length (x .values)) n) || not (eqb (length (x .links)) n)) ≡ false)
+  states-whole =
+      let few = eqb n 0 || ltb maxStates n in
+      let whole = not (eqb (length (x .values)) n) || not (eqb (length (x .links)) n) in
+      (or-false-l few whole (passed .states-fit), or-false-r few whole (passed .states-fit))
+
+  -- how long the memory and the lists are
+  pub load-counts : (fixedSize ≤ memory) × (length (x .masks) ≤ maxStates)
+      × (length (x .values) ≡ length (x .masks)) × (length (x .links) ≡ length (x .masks))
+      × (length (x .samples) ≤ maxNodes) × (length (x .starts) ≤ maxEdges) × (length (x .ends) ≡ length (x .starts))
+  load-counts = (
+    load-long,
+    ltb-false maxStates n (or-false-r (eqb n 0) (ltb maxStates n) (states-whole .0)),
+    same-long (x .values) n (or-false-l (not (eqb (length (x .values)) n)) (not (eqb (length (x .links)) n)) (states-whole .1)),
+    same-long (x .links) n (or-false-r (not (eqb (length (x .values)) n)) (not (eqb (length (x .links)) n)) (states-whole .1)),
+    ltb-false maxNodes (length (x .samples)) (passed .nodes-fit),
+    ltb-false maxEdges e (or-false-l (ltb maxEdges e) (not (eqb (length (x .ends)) e)) (passed .edges-fit)),
+    same-long (x .ends) e (or-false-r (ltb maxEdges e) (not (eqb (length (x .ends)) e)) (passed .edges-fit)),
+  )
+    where
+      same-long : (ys : List ℕ) (k : ℕ) → not (eqb (length ys) k) ≡ false → length ys ≡ k
+      same-long ys k h = eqb-true (length ys) k (not-false (eqb (length ys) k) h)
+
   pub load-trigger : below (2 ^ wordBits) (x .masks) ≡ true → below (2 ^ wordBits) (x .values) ≡ true → TriggerFacts (givenTrigger x)
-  load-trigger masks values =
-      let counts = eqb n 0 || ltb maxStates n in
-      let parts = not (eqb (length (x .values)) n) || not (eqb (length (x .links)) n) in
-      let few = or-false-l counts parts (passed .states-fit) in
-      let whole = or-false-r counts parts (passed .states-fit) in
-      let ne = eqb-false n 0 (or-false-l (eqb n 0) (ltb maxStates n) few) in
-      record {
-        some = positive n ne;
-        few = ltb-false maxStates n (or-false-r (eqb n 0) (ltb maxStates n) few);
-        values = eqb-true (length (x .values)) n
-            (not-false (eqb (length (x .values)) n) (or-false-l (not (eqb (length (x .values)) n)) (not (eqb (length (x .links)) n)) whole));
-        links = eqb-true (length (x .links)) n
-            (not-false (eqb (length (x .links)) n) (or-false-r (not (eqb (length (x .values)) n)) (not (eqb (length (x .links)) n)) whole));
-        masks-fit = masks;
-        values-fit = values;
-        links-fit = not-false (below (2 ^ n) (x .links)) (passed .links-fit);
-      }
+  load-trigger masks values = record {
+    some = positive n (eqb-false n 0 (or-false-l (eqb n 0) (ltb maxStates n) (states-whole .0)));
+    few = load-counts .1;
+    values = load-counts .2;
+    links = load-counts .3;
+    masks-fit = masks;
+    values-fit = values;
+    links-fit = not-false (below (2 ^ n) (x .links)) (passed .links-fit);
+  }
     where
       positive : (k : ℕ) → (k ≡ 0 → ⊥) → 1 ≤ k
       positive k ne = omega arith
-
-  pub load-counts : (fixedSize ≤ memory) × (length (x .masks) ≤ maxStates) × (length (x .samples) ≤ maxNodes) × (length (x .starts) ≤ maxEdges)
-  load-counts = (
-    load-long,
-    ltb-false maxStates n
-        (or-false-r (eqb n 0) (ltb maxStates n)
-        (or-false-l (eqb n 0 || ltb maxStates n) (not (eqb (length (x .values)) n) || not (eqb (length (x .links)) n)) (passed .states-fit))),
-    ltb-false maxNodes (length (x .samples)) (passed .nodes-fit),
-    ltb-false maxEdges e (or-false-l (ltb maxEdges e) (not (eqb (length (x .ends)) e)) (passed .edges-fit)),
-  )
 
   abbrev code : ℕ → ℕ
   code k = edgeNumber (getD (x .starts) k 0) (getD (x .ends) k 0)
 
   few-nodes : length (x .samples) ≤ maxNodes
-  few-nodes = ltb-false maxNodes (length (x .samples)) (passed .nodes-fit)
+  few-nodes = load-counts .4
 
   start-inside : (k : ℕ) → k < e → getD (x .starts) k 0 < length (x .samples)
   start-inside k l =
@@ -135,10 +140,8 @@ module _ (memory room : ℕ) (x : Given) (ok : verdict (loadRules memory room x)
 
   end-inside : (k : ℕ) → k < e → getD (x .ends) k 0 < length (x .samples)
   end-inside k l =
-      let same : length (x .ends) ≡ e =
-      eqb-true (length (x .ends)) e (not-false (eqb (length (x .ends)) e) (or-false-r (ltb maxEdges e) (not (eqb (length (x .ends)) e)) (passed .edges-fit))) in
       below-take (length (x .samples)) (x .ends)
-      (and-r (below (length (x .samples)) (x .starts)) (below (length (x .samples)) (x .ends)) (not-false _ (passed .named))) k (omega arith)
+      (and-r (below (length (x .samples)) (x .starts)) (below (length (x .samples)) (x .ends)) (not-false _ (passed .named))) k (omega (arith, load-counts .6))
 
   code-ends : (y : ℕ) → elem y (table e code) ≡ true → (y / maxNodes < length (x .samples)) × (y % maxNodes < length (x .samples))
   code-ends y h =
@@ -152,14 +155,11 @@ module _ (memory room : ℕ) (x : Given) (ok : verdict (loadRules memory room x)
       (omega arith, omega arith)
 
   -- what writing the edges needs
-  pub load-edges : (below maxNodes (x .starts) ≡ true) × (below maxNodes (x .ends) ≡ true) × (length (x .ends) ≡ length (x .starts))
-  load-edges =
-      let same : length (x .ends) ≡ e =
-      eqb-true (length (x .ends)) e (not-false (eqb (length (x .ends)) e) (or-false-r (ltb maxEdges e) (not (eqb (length (x .ends)) e)) (passed .edges-fit))) in (
-        below-make maxNodes (x .starts) (λ k l. omega (arith, start-inside k l, few-nodes)),
-        below-make maxNodes (x .ends) (λ k l. omega (arith, end-inside k (omega arith), few-nodes)),
-        same,
-      )
+  pub load-edges : (below maxNodes (x .starts) ≡ true) × (below maxNodes (x .ends) ≡ true)
+  load-edges = (
+    below-make maxNodes (x .starts) (λ k l. omega (arith, start-inside k l, few-nodes)),
+    below-make maxNodes (x .ends) (λ k l. omega (arith, end-inside k (omega (arith, load-counts .6)), few-nodes)),
+  )
 
   -- a load that breaks no rule breaks none in any room that is long enough
   pub load-elsewhere : (room' : ℕ) → maxChanges ≤ room' → verdict (loadRules memory room' x) ≡ 0
@@ -186,7 +186,7 @@ module _ (memory room : ℕ) (x : Given) (ok : verdict (loadRules memory room x)
   load-graph samples = record {
     few = few-nodes;
     samples-fit = samples;
-    few-edges = rw (length-table e code) (ltb-false maxEdges e (or-false-l (ltb maxEdges e) (not (eqb (length (x .ends)) e)) (passed .edges-fit)));
+    few-edges = rw (length-table e code) (load-counts .5);
     starts = λ y h. code-ends y h .0;
     ends = λ y h. code-ends y h .1;
     rising = codes-rise;

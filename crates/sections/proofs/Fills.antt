@@ -43,7 +43,7 @@ module _ (f : ℕ → ℕ) (entry : List ℕ) where
       ∙ append-nil (table i f)
       ∙ ap (λ (n : ℕ). table n f) whole
 
--- a list is stored at the front of a longer one, and zeros in the places after it
+-- a list is stored at the front of one that is no shorter, and zeros in the places after it
 pub fill-parts : (place source front rest : List ℕ) (n k : ℕ)
     → length source ≡ n
     → n ≤ length place

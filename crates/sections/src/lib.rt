@@ -2,7 +2,7 @@
 ghost use mathlib.Core.Path.{_≡_};
 ghost use mathlib.Core.Bool.{true};
 ghost use mathlib.Core.List.{[]};
-ghost use Prim.Native.Nat.{_^_};
+ghost use Prim.Native.Nat.{_^_, _≤_};
 ghost use lib.ListN.{length};
 ghost use Rattle.session.specs.Limits.{maxNodes, wordBits};
 ghost use Rattle.session.specs.Layout.{section, below};
@@ -31,18 +31,14 @@ pub fn clear(place: &mut [u32])
     }
 }
 
-// A section is filled with words, and zeros after them: two loops without a test, each of which compiles to one copy.
+// A section is filled with words that fit in it, and zeros after them: two loops without a test, which compile to a copy and a clear.
 pub fn fill_words(place: &mut [u32], source: &[u32])
+    requires { ⌜ length (now source) ≤ length (now place) ⌝ }
     ensures { λ r. ⌜ now (place .exit) ≡ section (length (now (place .entry))) (now (source .entry)) ⌝ }
 {
     let used = source.len();
-    let places = place.len();
-    if used < places {
-        copy_words(&mut place[..used], source);
-        clear(&mut place[used..]);
-    } else {
-        copy_words(place, &source[..places]);
-    }
+    copy_words(&mut place[..used], source);
+    clear(&mut place[used..]);
 }
 
 // The same of words of half the width.
@@ -58,16 +54,12 @@ pub fn copy_halves(place: &mut [u32], source: &[u16])
 }
 
 pub fn fill_halves(place: &mut [u32], source: &[u16])
+    requires { ⌜ length (now source) ≤ length (now place) ⌝ }
     ensures { λ r. ⌜ now (place .exit) ≡ section (length (now (place .entry))) (now (source .entry)) ⌝ }
 {
     let used = source.len();
-    let places = place.len();
-    if used < places {
-        copy_halves(&mut place[..used], source);
-        clear(&mut place[used..]);
-    } else {
-        copy_halves(place, &source[..places]);
-    }
+    copy_halves(&mut place[..used], source);
+    clear(&mut place[used..]);
 }
 
 // The same of the numbers of edges.
@@ -86,16 +78,12 @@ pub fn copy_edges(place: &mut [u32], starts: &[u32], ends: &[u32])
 pub fn fill_edges(place: &mut [u32], starts: &[u32], ends: &[u32])
     requires { ⌜ (below maxNodes (now starts) ≡ true) × (below maxNodes (now ends) ≡ true) ⌝ }
     requires { ⌜ length (now ends) ≡ length (now starts) ⌝ }
+    requires { ⌜ length (now starts) ≤ length (now place) ⌝ }
     ensures { λ r. ⌜ now (place .exit) ≡ section (length (now (place .entry))) (numbered (now (starts .entry)) (now (ends .entry))) ⌝ }
 {
     let used = starts.len();
-    let places = place.len();
-    if used < places {
-        copy_edges(&mut place[..used], starts, ends);
-        clear(&mut place[used..]);
-    } else {
-        copy_edges(place, &starts[..places], &ends[..places]);
-    }
+    copy_edges(&mut place[..used], starts, ends);
+    clear(&mut place[used..]);
 }
 
 // Small words go to places of half the width that are as many.

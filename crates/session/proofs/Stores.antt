@@ -5,7 +5,7 @@ use mathlib.Core.Path.{_≡_, refl, sym, _∙_, ap, ap₂, fun-ext}
 use mathlib.Core.Bool.{Bool, true, false, _&&_}
 use mathlib.Core.List.{List, [], _∷_, _++_, append-assoc}
 use lib.Dec.{ltb}
-use lib.ListN.{length, getD, set, take, drop, length-append, length-take, length-drop}
+use lib.ListN.{length, getD, set, take, drop, length-append}
 use lib.Seq.{take-at, drop-at, drop-drop, ext-getD}
 use borrow.Author.Tests.{ltb-true, lt-ltb}
 use Rattle.simulation.proofs.Sets.{clash, same, and-make, and-l, and-r, refuted}
@@ -14,7 +14,7 @@ use Rattle.bits.proofs.Words.{same-members, word-members, zero-members}
 use Rattle.session.specs.Limits.{maxStates, maxNodes, maxEdges, marksAt, fixedSize}
 use Rattle.session.specs.Trigger.{Trigger, Graph, Marks, states, nodes}
 use Rattle.session.specs.Layout.{table, section, markWord, image}
-use Rattle.session.proofs.Tables.{length-table, getD-table, length-section, getD-section, table-same}
+use Rattle.session.proofs.Tables.{length-section, table-of, table-same}
 use Rattle.session.proofs.Image.{length-image, drop-image}
 
 -- ---- all but the marks
@@ -60,12 +60,13 @@ mark-word-is t g m v w h =
     (fun-ext (λ u. h u ∙ sym (word-members (states t) (λ u. ltb v (nodes g) && m u v) u)))
 
 -- a table of words that marks states and nodes of the session alone is its mark words
-pub marks-section : (t : Trigger) (g : Graph) (ts : List ℕ)
+table-words : (t : Trigger) (g : Graph) (ts : List ℕ) → length ts ≡ maxNodes
     → ((u v : ℕ) → members (getD ts v 0) u ≡ true → (u < states t) × (v < nodes g))
-    → section maxNodes ts ≡ table maxNodes (markWord t g (λ u v. members (getD ts v 0) u))
-unfolding section
-marks-section t g ts inside =
-    table-same maxNodes (λ v. getD ts v 0) (markWord t g (λ u v. members (getD ts v 0) u))
+    → ts ≡ table maxNodes (markWord t g (λ u v. members (getD ts v 0) u))
+table-words t g ts whole inside =
+    sym (table-of ts)
+    ∙ ap (λ (n : ℕ). table n (λ v. getD ts v 0)) whole
+    ∙ table-same maxNodes (λ v. getD ts v 0) (markWord t g (λ u v. members (getD ts v 0) u))
     (λ v l.
     mark-word-is t g (λ u v. members (getD ts v 0) u) v (getD ts v 0)
     (λ u.
@@ -107,12 +108,10 @@ put-section ys xs written part p k e l n =
 
 -- ---- the marks of a table
 
-pub put-marks : (t : Trigger) (g : Graph) (m : Marks) (xs rest ts ys : List ℕ) → xs ≡ image t g m ++ rest → fixedSize ≤ length xs
+pub put-marks : (t : Trigger) (g : Graph) (m : Marks) (xs rest ts ys : List ℕ) → xs ≡ image t g m ++ rest → length ts ≡ maxNodes
     → ((u v : ℕ) → members (getD ts v 0) u ≡ true → (u < states t) × (v < nodes g))
-    → ys ≡ section (length (take maxNodes (drop marksAt xs))) ts
+    → ys ≡ ts
     → take marksAt xs ++ (ys ++ drop maxNodes (drop marksAt xs)) ≡ image t g (λ u v. members (getD ts v 0) u) ++ rest
-put-marks t g m xs rest ts ys e long inside filled =
-    let size : length (take maxNodes (drop marksAt xs)) ≡ maxNodes = length-take maxNodes (drop marksAt xs) ∙ omega (arith, length-drop marksAt xs) in
-    let words : ys ≡ table maxNodes (markWord t g (λ u v. members (getD ts v 0) u)) = filled ∙ ap (λ (k : ℕ). section k ts) size ∙ marks-section t g ts inside in
-    ap₂ (λ (a b : List ℕ). take marksAt xs ++ (a ++ b)) words (drop-drop maxNodes marksAt xs)
+put-marks t g m xs rest ts ys e whole inside copied =
+    ap₂ (λ (a b : List ℕ). take marksAt xs ++ (a ++ b)) (copied ∙ table-words t g ts whole inside) (drop-drop maxNodes marksAt xs)
     ∙ store-marks t g m (λ u v. members (getD ts v 0) u) xs rest e

@@ -68,18 +68,12 @@ take-section n xs h =
 pub section-zero : (n : ℕ) (xs : List ℕ) (i : ℕ) → i < n → length xs ≤ i → getD (section n xs) i 0 ≡ 0
 section-zero n xs i h l = getD-section n xs i h ∙ List·getD-eq-default xs 0 l
 
--- a longer section is the list with zeros after it, a shorter one its front
+-- a longer section is the list with zeros after it
 pub section-longer : (n : ℕ) (xs : List ℕ) → length xs ≤ n → xs ++ section (n - length xs) [] ≡ section n xs
 unfolding section table
 section-longer n [] h = rw sub-zero
 section-longer zero (x ∷ xs) h = absurd (omega arith)
 section-longer (suc n) (x ∷ xs) h = rw suc-sub-suc (ap (λ (r : List ℕ). x ∷ r) (section-longer n xs (omega arith)))
-
-pub section-shorter : (n : ℕ) (xs : List ℕ) → n ≤ length xs → take n xs ≡ section n xs
-unfolding section table
-section-shorter zero xs h = refl
-section-shorter (suc n) [] h = absurd (omega arith)
-section-shorter (suc n) (x ∷ xs) h = ap (λ (r : List ℕ). x ∷ r) (section-shorter n xs (omega arith))
 
 -- ---- lists whose entries are below n
 
@@ -90,12 +84,6 @@ below-take n xs h i l = ltb-true (getD xs i 0) n (all-take (length xs) (λ i. lt
 pub below-make : (n : ℕ) (xs : List ℕ) → ((i : ℕ) → i < length xs → getD xs i 0 < n) → below n xs ≡ true
 unfolding below
 below-make n xs h = all-make (length xs) (λ i. ltb (getD xs i 0) n) (λ i l. lt-ltb (getD xs i 0) n (h i l))
-
--- the front of such a list
-pub below-front : (n k : ℕ) (xs : List ℕ) → below k xs ≡ true → below k (take n xs) ≡ true
-below-front n k xs h =
-    below-make k (take n xs)
-    (λ i l. rw (getD-take n xs i 0 (omega (arith, length-take n xs))) (below-take k xs h i (omega (arith, length-take n xs))))
 
 -- also past the end, where zero is read
 pub below-at : (n : ℕ) (xs : List ℕ) → below n xs ≡ true → 0 < n → (i : ℕ) → getD xs i 0 < n
@@ -110,17 +98,6 @@ below-at n xs h some i =
 pub length-numbered : (starts ends : List ℕ) → length (numbered starts ends) ≡ length starts
 unfolding numbered
 length-numbered starts ends = length-table (length starts) (λ k. edgeNumber (getD starts k 0) (getD ends k 0))
-
--- those of the first n
-pub numbered-front : (n : ℕ) (starts ends : List ℕ) → n ≤ length starts
-    → numbered (take n starts) (take n ends) ≡ section n (numbered starts ends)
-unfolding numbered section
-numbered-front n starts ends h =
-    ap (λ (m : ℕ). table m (λ k. edgeNumber (getD (take n starts) k 0) (getD (take n ends) k 0))) (length-take-le n starts h)
-    ∙ table-same n (λ k. edgeNumber (getD (take n starts) k 0) (getD (take n ends) k 0)) (λ i. getD (numbered starts ends) i 0)
-    (λ i l.
-    ap₂ edgeNumber (getD-take n starts i 0 l) (getD-take n ends i 0 l)
-    ∙ sym (getD-table (length starts) (λ k. edgeNumber (getD starts k 0) (getD ends k 0)) i (omega arith)))
 
 -- ---- a section whose used places hold small numbers, and the others zeros
 

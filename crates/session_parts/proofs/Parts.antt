@@ -14,8 +14,7 @@ use Rattle.simulation.proofs.Search.{lt-or-le}
 use Rattle.bits.specs.Word.{members}
 use Rattle.bits.proofs.Words.{word-members}
 use Rattle.session.specs.Trigger.{Trigger, Graph, states, nodes}
-use Rattle.session.specs.Layout.{table, section, markWord, triggerOf, graphOf, marksOf, inLayout}
-use Rattle.session.proofs.Tables.{table-of}
+use Rattle.session.specs.Layout.{markWord, triggerOf, graphOf, marksOf, inLayout}
 use Rattle.session.proofs.Decoded.{LayoutFacts, layout-facts, layout-limits, layout-whole}
 use Rattle.session.proofs.Image.{mark-word}
 use Rattle.pair_tables.specs.Tables.{marked}
@@ -45,13 +44,6 @@ module _ (xs : List ℕ) (h : inLayout xs ≡ true) where
 
   pub marks-long : length (take 512 (drop 2611 xs)) ≡ 512
   marks-long = length-take 512 (drop 2611 xs) ∙ omega (arith, length-drop 2611 xs, layout-limits xs h)
-
-  -- a table that is filled with them holds just them
-  pub saved-marks : section 512 (take 512 (drop 2611 xs)) ≡ take 512 (drop 2611 xs)
-  unfolding section
-  saved-marks =
-      let ms = take 512 (drop 2611 xs) in
-      ap (λ (k : ℕ). table k (λ i. getD ms i 0)) (sym marks-long) ∙ table-of ms
 
   pub held-marks : marked (take 512 (drop 2611 xs)) ≡ marksOf xs
   held-marks = fun-ext (λ u. fun-ext (λ v. ⊎-elim (near u v) (far u v) (lt-or-le v 512)))

@@ -66,5 +66,5 @@ pub fn store_marks(session: &mut [u32], table: &[u32])
     requires { ⌜ (inLayout (now session) ≡ true) × (length (now table) ≡ maxNodes) × Inside (now session) (now table) ⌝ }
     ensures { λ r. ⌜ now (session .exit) ≡ image (triggerOf (now (session .entry))) (graphOf (now (session .entry))) (marked (now (table .entry))) ++ drop fixedSize (now (session .entry)) ⌝ }
 {
-    sections::fill_words(&mut session[session::MARKS_AT..session::FIXED_SIZE], table);
+    sections::copy_words(&mut session[session::MARKS_AT..session::FIXED_SIZE], table);
 }

@@ -3,15 +3,15 @@ use native.Mathlib.Omega.{arith}
 use Prim.Native.Nat.{_<_}
 use mathlib.Core.Path.{_≡_, refl, sym, _∙_, ap}
 use mathlib.Core.Bool.{true}
-use lib.ListN.{take, drop}
+use lib.ListN.{length, take, drop}
 use Rattle.session.specs.Trigger.{nodes}
-use Rattle.session.specs.Layout.{section, triggerOf, graphOf, marksOf, inLayout}
+use Rattle.session.specs.Layout.{triggerOf, graphOf, marksOf, inLayout}
 use Rattle.promises.specs.Rules.{deletion, edited}
 use Rattle.promises.specs.Promises.{Left}
 use Rattle.promises.proofs.Edits.{deletion-passed}
-use Rattle.session_parts.proofs.Parts.{saved-marks}
+use Rattle.session_parts.proofs.Parts.{marks-long}
 use Rattle.editing.specs.Steps.{Ceased}
-use Rattle.editing.proofs.Moved.{moved-saved, saved-calm, saved-before}
+use Rattle.editing.proofs.Moved.{saved-calm, saved-before}
 use Rattle.deletion.proofs.Deleted.{deleted-layout, deleted-start, deleted-same, ceased-inside, deleted-stored}
 use borrow.Author.Needs.{needs}
 use Rattle.deletion.proofs.delete_edit.Statement.{statement}
@@ -32,15 +32,11 @@ inside : (c : tie.After-remove-edge) → start c .args .start < nodes (graphOf (
 inside c = let s = start c in deleted-start (s .args .session .now) (s .args .start) (s .args .end) (s .pre .0) (s .pre .1) _ (moved c)
 
 -- the marks that were
-abbrev edge-out : tie.After-fill-words → tie.After-remove-edge
+abbrev edge-out : tie.After-copy-words → tie.After-remove-edge
 edge-out c = c .before .before .before .before .before .before .before .before .before
 
-saved : (c : tie.After-fill-words) → c .fill-words .last .0 ≡ take 512 (drop 2611 (edge-out c .remove-edge .last .0))
-saved c =
-    let i = edge-out c in
-    let s = start i in
-    let a = s .args in
-    moved-saved deletion (a .session .now) (a .start) (a .end) (s .pre .0) (s .pre .1) _ (moved i) _ _ _ (s .pre .2) (c .before .marks-of .ensures) (c .fill-words .ensures)
+saved : (c : tie.After-copy-words) → c .copy-words .last .0 ≡ take 512 (drop 2611 (edge-out c .remove-edge .last .0))
+saved c = c .copy-words .ensures ∙ c .before .marks-of .ensures
 
 -- what refinement leaves
 left : (c : tie.After-cease) → let i = edge-out (c .before .before .before .before .before .before .before .before .before) in Ceased (i .remove-edge .last .0) (start i .args .start) (c .cease .last .1 .1 .0)
@@ -68,14 +64,16 @@ returns c =
 marks-of-requires : tie.Need-marks-of-requires
 marks-of-requires c κs = layout (c .before .before .before .before .before .before .before)
 
-fill-words-requires : tie.Need-fill-words-requires
-fill-words-requires c κs = search needs
+copy-words-requires : tie.Need-copy-words-requires
+copy-words-requires c κs =
+    let i = c .before .before .before .before .before .before .before .before in
+    ap length (c .marks-of .ensures) ∙ marks-long (i .remove-edge .last .0) (layout i) ∙ sym (start i .pre .2)
 
-slice-aggregate-fill-words : tie.Need-slice-aggregate-fill-words
-slice-aggregate-fill-words c = search needs
+slice-aggregate-copy-words : tie.Need-slice-aggregate-copy-words
+slice-aggregate-copy-words c = search needs
 
-fill-words-requires-2 : tie.Need-fill-words-requires-2
-fill-words-requires-2 c κs = search needs
+copy-words-requires-2 : tie.Need-copy-words-requires-2
+copy-words-requires-2 c κs = search needs
 
 slice-aggregate-cease : tie.Need-slice-aggregate-cease
 slice-aggregate-cease c = search needs
@@ -83,8 +81,7 @@ slice-aggregate-cease c = search needs
 cease-requires : tie.Need-cease-requires
 cease-requires c κs =
     let i = c .before .before .before .before .before .before .before .before .before .before .before .before .before .before .before .before .before in
-    let xs₁ = i .remove-edge .last .0 in
-    (layout i, inside i, c .before .before .before .fill-words2 .ensures ∙ ap (section 512) (saved (c .before .before .before .before .before .before .before .before)) ∙ saved-marks xs₁ (layout i))
+    (layout i, inside i, c .before .before .before .copy-words2 .ensures ∙ saved (c .before .before .before .before .before .before .before .before))
 
 slice-aggregate-ceased-pairs : tie.Need-slice-aggregate-ceased-pairs
 slice-aggregate-ceased-pairs c = search needs
@@ -130,9 +127,9 @@ delete-edit-spec =
     same-length
     returns
     marks-of-requires
-    fill-words-requires
-    slice-aggregate-fill-words
-    fill-words-requires-2
+    copy-words-requires
+    slice-aggregate-copy-words
+    copy-words-requires-2
     slice-aggregate-cease
     cease-requires
     slice-aggregate-ceased-pairs

@@ -17,7 +17,7 @@ use Rattle.promises.specs.Rules.{insertion}
 use Rattle.promises.proofs.Edits.{insertion-passed}
 use Rattle.session_parts.proofs.Parts.{marks-long, held-marks}
 use Rattle.editing.specs.Steps.{Begun}
-use Rattle.editing.proofs.Moved.{left-length, moved-saved, saved-calm, saved-before}
+use Rattle.editing.proofs.Moved.{left-length, saved-calm, saved-before}
 use Rattle.insertion.proofs.Inserted.{in-layout, start-near, end-near, inserted-same, stored-inside, inserted-stored}
 use borrow.Author.Needs.{needs}
 use Rattle.insertion.proofs.insert_edit.Statement.{statement}
@@ -93,8 +93,10 @@ returns c =
 marks-of-requires : tie.Need-marks-of-requires
 marks-of-requires c κs = layout (edge-in (c .before .before .before))
 
-fill-words-requires : tie.Need-fill-words-requires
-fill-words-requires c κs = search needs
+copy-words-requires : tie.Need-copy-words-requires
+copy-words-requires c κs =
+    let i = edge-in (c .before .before .before .before) in
+    ap length (c .marks-of .ensures) ∙ marks-long (xs₁ i) (layout i) ∙ sym (entry i .pre .2)
 
 slice-aggregate-try-out : tie.Need-slice-aggregate-try-out
 slice-aggregate-try-out c = search needs
@@ -155,7 +157,7 @@ returns-2 c =
       inserted-stored (a .session .now) (a .start) (a .end) (s .pre .0) (s .pre .1) (xs₁ i) (i .insert-edge .ensures)
           (begun t .trials) (t .try-out .last .1 .1 .1 .0) (p .put-together .last .0) (begun t .tried) (begun t .left) (both p) (t .try-out .result) (begun t .counted) _ (m .store-marks .ensures),
       saved-before insertion (a .session .now) (a .start) (a .end) (s .pre .0) (s .pre .1) (xs₁ i) (i .insert-edge .ensures) _ _
-          (moved-saved insertion (a .session .now) (a .start) (a .end) (s .pre .0) (s .pre .1) (xs₁ i) (i .insert-edge .ensures) _ _ _ (s .pre .2) (saved .before .marks-of .ensures) (saved .fill-words .ensures)),
+          (saved .copy-words .ensures ∙ saved .before .marks-of .ensures),
     )
 
 pub insert-edit-spec : {M : Type 1} → statement M
@@ -167,7 +169,7 @@ insert-edit-spec =
     same-length
     returns
     marks-of-requires
-    fill-words-requires
+    copy-words-requires
     slice-aggregate-try-out
     try-out-requires
     slice-aggregate-put-together
