@@ -1,3 +1,3 @@
 -- The laws by which the tests say whether a memory is in layout.
-pub mod Admission
+pub mod Unadmitted
 pub mod Tested

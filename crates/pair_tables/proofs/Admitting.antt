@@ -18,17 +18,13 @@ use Rattle.simulation.proofs.Sets.{split, count-le}
 use Rattle.simulation.proofs.Loops.{count-same, total, count-rows}
 use Rattle.bits.specs.Word.{members}
 use Rattle.bits.proofs.Words.{zero-members, also-members}
-use Rattle.bits.proofs.Tests.{masked}
 use Rattle.session.specs.Limits.{wordBits, maxNodes}
 use Rattle.session.specs.Trigger.{agrees}
+use Rattle.session.proofs.Admission.{agrees-masked}
 use Rattle.pair_tables.specs.Tables.{marked, Admits, Admitted}
 use Rattle.simulation.proofs.Gains.{more-here, more-other, row-more}
 
 -- ---- a state: the nodes below k are seen
-
-pub agrees-test : (mask value sample : ℕ) → mask < 2 ^ 16 → eqb (bitAnd (bitXor value sample) mask) 0 ≡ agrees wordBits mask value sample
-unfolding agrees
-agrees-test mask value sample h = masked wordBits mask value sample h
 
 module _ (samples : List ℕ) (mask value u : ℕ) (ts : List ℕ) where
   abbrev agreed : Set
@@ -61,7 +57,7 @@ module _ (samples : List ℕ) (mask value u : ℕ) (ts : List ℕ) where
     }
       where
         taken : agreed k ≡ true
-        taken = sym (agrees-test mask value (getD samples k 0) fits) ∙ eq-eqb (bitAnd (bitXor value (getD samples k 0)) mask) 0 e
+        taken = sym (agrees-masked wordBits mask value (getD samples k 0) fits) ∙ eq-eqb (bitAnd (bitXor value (getD samples k 0)) mask) 0 e
 
         here : (x v : ℕ) → v ≡ k → marked (set ts' k w) x v ≡ (marked ts x v || (eqb x u && (ltb v (k + 1) && agreed v)))
         here x v q =
@@ -79,7 +75,7 @@ module _ (samples : List ℕ) (mask value u : ℕ) (ts : List ℕ) where
     }
       where
         left : agreed k ≡ false
-        left = sym (agrees-test mask value (getD samples k 0) fits) ∙ ne-eqb (bitAnd (bitXor value (getD samples k 0)) mask) 0 e
+        left = sym (agrees-masked wordBits mask value (getD samples k 0) fits) ∙ ne-eqb (bitAnd (bitXor value (getD samples k 0)) mask) 0 e
 
         here : (x v : ℕ) → v ≡ k → marked ts' x v ≡ (marked ts x v || (eqb x u && (ltb v (k + 1) && agreed v)))
         here x v q = rw (q, left, and-false) (rw (left, and-false) at (s .words x k))

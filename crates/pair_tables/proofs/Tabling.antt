@@ -17,10 +17,11 @@ use Rattle.simulation.proofs.Sets.{split, count-le}
 use Rattle.simulation.proofs.Loops.{count-same, count-beyond, total, count-rows}
 use Rattle.bits.specs.Word.{members}
 use Rattle.bits.proofs.Words.{zero-members}
+use Rattle.session.specs.Limits.{wordBits}
 use Rattle.session.specs.Trigger.{agrees}
+use Rattle.session.proofs.Admission.{agrees-masked}
 use Rattle.pair_tables.specs.Tables.{marked}
 use Rattle.simulation.proofs.Gains.{more-here, more-other}
-use Rattle.pair_tables.proofs.Admitting.{agrees-test}
 
 -- words of zero mark nothing
 pub marked-none : (ts : List ℕ) → ((v : ℕ) → getD ts v 0 ≡ 0) → marked ts ≡ (λ u v. false)
@@ -39,10 +40,10 @@ module _ (masks values : List ℕ) (sample : ℕ) where
     tested = bitAnd (bitXor (getD values u 0) sample) (getD masks u 0)
 
     pub admitting-yes : bitAnd (bitXor (getD values u 0) sample) (getD masks u 0) ≡ 0 → admitting u ≡ true
-    admitting-yes e = sym (agrees-test (getD masks u 0) (getD values u 0) sample small) ∙ eq-eqb tested 0 e
+    admitting-yes e = sym (agrees-masked wordBits (getD masks u 0) (getD values u 0) sample small) ∙ eq-eqb tested 0 e
 
     pub admitting-no : (bitAnd (bitXor (getD values u 0) sample) (getD masks u 0) ≡ 0 → ⊥) → admitting u ≡ false
-    admitting-no e = sym (agrees-test (getD masks u 0) (getD values u 0) sample small) ∙ ne-eqb tested 0 e
+    admitting-no e = sym (agrees-masked wordBits (getD masks u 0) (getD values u 0) sample small) ∙ ne-eqb tested 0 e
 
 -- ---- the words below k are changed: each pair by its mark in either table
 

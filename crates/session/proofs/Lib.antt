@@ -1,6 +1,7 @@
 -- The laws of the session's definitions.
 pub mod Tables
 pub mod Valid
+pub mod Admission
 pub mod Image
 pub mod Decoded
 pub mod Stores

@@ -12,7 +12,7 @@ use Rattle.bits.specs.Word.{members}
 use Rattle.bits.proofs.Gathers.{gathers}
 use Rattle.session.specs.Tests.{sparse}
 use Rattle.bits.proofs.Words.{zero-members}
-use Rattle.layout_test.proofs.Admission.{sparse-none}
+use Rattle.layout_test.proofs.Unadmitted.{sparse-none}
 use Rattle.sections.proofs.Fills.{front-read, front-inside}
 use Rattle.layout_test.proofs.all_admitted.Statement.{statement}
 use Rattle.layout_test.proofs.all_admitted.Tie as tie

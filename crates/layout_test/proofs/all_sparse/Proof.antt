@@ -14,7 +14,7 @@ use Rattle.bits.proofs.Words.{and-again}
 use Rattle.bits.proofs.Gathers.{gathers}
 use Rattle.session.specs.Tests.{sparse}
 use Rattle.session.proofs.Tables.{below-take}
-use Rattle.layout_test.proofs.Admission.{stray, sparse-stray, sparse-part, sparse-none}
+use Rattle.layout_test.proofs.Unadmitted.{stray, sparse-stray, sparse-part, sparse-none}
 use Rattle.simulation.proofs.Folds.{Folded, fold-start, fold-pass, fold-fault, fold-end}
 use Rattle.layout_test.proofs.all_sparse.Statement.{statement}
 use Rattle.layout_test.proofs.all_sparse.Tie as tie

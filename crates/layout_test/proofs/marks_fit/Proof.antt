@@ -111,8 +111,7 @@ all-admitted-requires c κs =
     let n = s .args .states in
     let m = s .args .nodes in
     let xs = s .args .session .now in
-    let small = test-marks xs n m (sym (whole (one .before)) ∙ one .if1 .taken) (omega arith) (omega arith) (omega arith) in
-    (
+    let small = test-marks xs n m (sym (whole (one .before)) ∙ one .if1 .taken) (omega arith) (omega arith) (omega arith) in (
       (
         simp add-sub-cancel-left (part-length xs 51 m (omega arith) ∙ sym (part-length xs 2611 m (omega arith))),
         simp add-sub-cancel-left (part-length xs 19 n (omega arith) ∙ sym (part-length xs 3 n (omega arith))),

@@ -10,7 +10,8 @@ use lib.ListN.{length, getD}
 use Rattle.bits.specs.Word.{members}
 use Rattle.bits.proofs.Words.{zero-members}
 use Rattle.bits.proofs.Gathers.{gathers, gather-none, gather-more}
-use Rattle.layout_test.proofs.Admission.{agrees-inside, stray}
+use Rattle.session.proofs.Admission.{agrees-inside}
+use Rattle.layout_test.proofs.Unadmitted.{stray}
 use Rattle.layout_test.proofs.strays.Statement.{statement}
 use Rattle.layout_test.proofs.strays.Tie as tie
 
