@@ -1,3 +1,2 @@
 -- The laws by which the tests say whether a memory is in layout.
-pub mod Unadmitted
 pub mod Tested

@@ -1,85 +1,17 @@
-// The test whether a memory is in layout: trigger, graph, and marks at admitted pairs alone.
+// The test whether a memory is in layout: trigger, graph and marks.
 ghost use mathlib.Core.Path.{_≡_};
-ghost use mathlib.Core.Bool.{true, not, _&&_};
-ghost use Prim.Native.Nat.{_^_, _<_, _≤_};
-ghost use lib.Bits.{bitAnd};
-ghost use lib.ListN.{length, getD};
-ghost use Rattle.simulation.specs.Sets.{allBelow, anyBelow};
-ghost use Rattle.bits.specs.Word.{members};
+ghost use mathlib.Core.Bool.{true};
+ghost use Prim.Native.Nat.{_^_, _≤_};
+ghost use lib.ListN.{length};
 ghost use Rattle.session.specs.Limits.{fixedSize, maxEdges, maxNodes, maxStates, wordBits};
-ghost use Rattle.session.specs.Trigger.{agrees};
 ghost use Rattle.session.specs.Layout.{part, below, inLayout};
-ghost use Rattle.session.specs.Tests.{sparse, triggerTest, graphTest, marksTest};
-use bits::picked_half;
+ghost use Rattle.session.specs.Tests.{triggerTest, graphTest, marksTest};
+use section_tests::all_admitted;
 use section_tests::all_ascend;
 use section_tests::all_named;
 use section_tests::all_zero;
 use section_tests::section_fits;
 use section_tests::unions_fit;
-use sections::narrow;
-
-// The marks at nodes whose sample the mask and the value do not admit. The value lies inside the mask.
-pub fn strays(samples: &[u16], marks: &[u16], mask: u16, value: u16) -> u16
-    requires { ⌜ (length (now samples) ≡ length (now marks)) × (mask < 2 ^ wordBits) ⌝ }
-    requires { ⌜ bitAnd value mask ≡ value ⌝ }
-    ensures { λ r. ⌜ members r ≡ (λ u. anyBelow (length (now (marks .entry))) (λ v. members (getD (now (marks .entry)) v 0) u && not (agrees wordBits mask value (getD (now (samples .entry)) v 0)))) ⌝ }
-{
-    let mut all: u16 = 0;
-    let mut v = 0;
-    while v < marks.len() {
-        all = all | picked_half(marks[v], samples[v] & mask != value);
-        v += 1;
-    }
-    all
-}
-
-// Whether each mark is at a node that its state admits. A state that has no mark is passed over.
-pub fn all_sparse(masks: &[u32], values: &[u32], samples: &[u16], marks: &[u16], used: u32) -> bool
-    requires { ⌜ (length (now samples) ≡ length (now marks)) × (length (now values) ≡ length (now masks)) × (length (now masks) ≤ 32) ⌝ }
-    requires { ⌜ below (2 ^ wordBits) (now masks) ≡ true ⌝ }
-    requires { ⌜ members used ≡ (λ u. anyBelow (length (now marks)) (λ v. members (getD (now marks) v 0) u)) ⌝ }
-    ensures { λ r. ⌜ r ≡ allBelow (length (now (masks .entry))) (λ u. sparse (now (samples .entry)) (now (marks .entry)) (getD (now (masks .entry)) u 0) (getD (now (values .entry)) u 0) u) ⌝ }
-{
-    let mut faults: u32 = 0;
-    let mut u = 0;
-    while u < masks.len() {
-        if bits::has(used, u as u32) {
-            let mask = masks[u];
-            let wanted = values[u] & mask;
-            let stray = strays(samples, marks, mask as u16, wanted as u16);
-            if bits::has(stray as u32, u as u32) {
-                faults = 1;
-            }
-        }
-        u += 1;
-    }
-    faults == 0
-}
-
-// The same of words, whose halves are compared: a vector holds twice as many.
-pub fn all_admitted(
-    masks: &[u32],
-    values: &[u32],
-    samples: &[u32],
-    marks: &[u32],
-    used: u32,
-) -> bool
-    requires { ⌜ (length (now samples) ≡ length (now marks)) × (length (now values) ≡ length (now masks)) × (length (now masks) ≤ 32) ⌝ }
-    requires { ⌜ below (2 ^ wordBits) (now masks) ≡ true ⌝ }
-    requires { ⌜ (below (2 ^ wordBits) (now samples) ≡ true) × (below (2 ^ wordBits) (now marks) ≡ true) × (length (now marks) ≤ maxNodes) ⌝ }
-    requires { ⌜ members used ≡ (λ u. anyBelow (length (now marks)) (λ v. members (getD (now marks) v 0) u)) ⌝ }
-    ensures { λ r. ⌜ r ≡ allBelow (length (now (masks .entry))) (λ u. sparse (now (samples .entry)) (now (marks .entry)) (getD (now (masks .entry)) u 0) (getD (now (values .entry)) u 0) u) ⌝ }
-{
-    if used == 0 {
-        return true;
-    }
-    let nodes = marks.len();
-    let mut words = [0u16; session::MAX_NODES];
-    narrow(&mut words[..nodes], samples);
-    let mut signs = [0u16; session::MAX_NODES];
-    narrow(&mut signs[..nodes], marks);
-    all_sparse(masks, values, &words[..nodes], &signs[..nodes], used)
-}
 
 // Whether the marks fit. The union of the marks serves both tests.
 pub fn marks_fit(session: &[u32], states: usize, nodes: usize) -> bool

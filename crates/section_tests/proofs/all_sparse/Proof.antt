@@ -14,10 +14,10 @@ use Rattle.bits.proofs.Words.{and-again}
 use Rattle.bits.proofs.Gathers.{gathers}
 use Rattle.session.specs.Tests.{sparse}
 use Rattle.session.proofs.Tables.{below-take}
-use Rattle.layout_test.proofs.Unadmitted.{stray, sparse-stray, sparse-part, sparse-none}
+use Rattle.section_tests.proofs.Unadmitted.{stray, sparse-stray, sparse-part, sparse-none}
 use Rattle.simulation.proofs.Folds.{Folded, fold-start, fold-pass, fold-fault, fold-end}
-use Rattle.layout_test.proofs.all_sparse.Statement.{statement}
-use Rattle.layout_test.proofs.all_sparse.Tie as tie
+use Rattle.section_tests.proofs.all_sparse.Statement.{statement}
+use Rattle.section_tests.proofs.all_sparse.Tie as tie
 
 -- the marks of the state u are admitted
 abbrev admitted : List ℕ → List ℕ → List ℕ → List ℕ → Set

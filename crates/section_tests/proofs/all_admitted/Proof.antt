@@ -12,10 +12,10 @@ use Rattle.bits.specs.Word.{members}
 use Rattle.bits.proofs.Gathers.{gathers}
 use Rattle.session.specs.Tests.{sparse}
 use Rattle.bits.proofs.Words.{zero-members}
-use Rattle.layout_test.proofs.Unadmitted.{sparse-none}
+use Rattle.section_tests.proofs.Unadmitted.{sparse-none}
 use Rattle.sections.proofs.Fills.{front-read, front-inside}
-use Rattle.layout_test.proofs.all_admitted.Statement.{statement}
-use Rattle.layout_test.proofs.all_admitted.Tie as tie
+use Rattle.section_tests.proofs.all_admitted.Statement.{statement}
+use Rattle.section_tests.proofs.all_admitted.Tie as tie
 
 abbrev start : tie.After-shared-slice-known4 → tie.Start
 start c = c .before .before .before .before

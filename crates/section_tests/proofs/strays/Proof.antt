@@ -11,9 +11,9 @@ use Rattle.bits.specs.Word.{members}
 use Rattle.bits.proofs.Words.{zero-members}
 use Rattle.bits.proofs.Gathers.{gathers, gather-none, gather-more}
 use Rattle.session.proofs.Admission.{agrees-inside}
-use Rattle.layout_test.proofs.Unadmitted.{stray}
-use Rattle.layout_test.proofs.strays.Statement.{statement}
-use Rattle.layout_test.proofs.strays.Tie as tie
+use Rattle.section_tests.proofs.Unadmitted.{stray}
+use Rattle.section_tests.proofs.strays.Statement.{statement}
+use Rattle.section_tests.proofs.strays.Tie as tie
 
 abbrev Inv-loop : tie.InvT-loop
 Inv-loop samples marks mask value all₀ v₀ all v = (v ≤ length marks) × (members all ≡ gathers v (stray samples marks mask value))
