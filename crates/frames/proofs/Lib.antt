@@ -10,3 +10,4 @@ pub mod Kept
 pub mod Played
 pub mod Programs
 pub mod Samples
+pub mod Takes

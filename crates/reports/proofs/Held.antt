@@ -1,4 +1,5 @@
 -- What the report of a call reads from a session in layout: firing, and the change list.
+use Rattle.session.proofs.Tables.{part-from}
 use Prim.Native.Nat.{ℕ, _+_, _-_, _≤_}
 use native.Mathlib.Nat.{mul-le-mul-left}
 use native.Mathlib.Omega.{arith}
@@ -18,7 +19,7 @@ use Rattle.listing.specs.Changes.{changes}
 use Rattle.listing.specs.Placed.{tableChanges}
 use Rattle.listing.proofs.Placing.{table-short}
 use Rattle.promises.specs.Standing.{fires}
-use Rattle.session_parts.proofs.Parts.{part-is, held-marks}
+use Rattle.session_parts.proofs.Parts.{held-marks}
 
 module _ (xs : List ℕ) (h : inLayout xs ≡ true) where
   abbrev facts : LayoutFacts xs
@@ -70,6 +71,6 @@ module _ (xs : List ℕ) (h : inLayout xs ≡ true) where
       ≡ fires (triggerOf xs) (graphOf xs) (marksOf xs)
   held-firing =
       ap (λ (ws : List ℕ). allBelow (getD xs 0 0) (λ u. anyBelow (length ws) (λ v. members (getD ws v 0) u)))
-      (part-is xs 2611 (getD xs 1 0) ∙ sym (take-take (getD xs 1 0) 512 (drop 2611 xs) (layout-limits xs h .few-nodes)))
+      (part-from xs 2611 (getD xs 1 0) ∙ sym (take-take (getD xs 1 0) 512 (drop 2611 xs) (layout-limits xs h .few-nodes)))
       ∙ held-fires (take 512 (drop 2611 xs)) (omega (arith, length-take 512 (drop 2611 xs), length-drop 2611 xs, layout-limits xs h))
       ∙ ap (fires t g) (held-marks xs h)

@@ -146,3 +146,7 @@ pub fits-gathered : (n k used inside unused : ℕ) (xs : List ℕ) → used ≤ 
     → (within n inside (2 ^ k - 1) && eqb unused 0) ≡ fits k used xs
 fits-gathered n k used inside unused xs h l e d =
     ap₂ _&&_ (gathered-below inside (take used xs) e n k l) (gathered-zero unused (drop used xs) d) ∙ sym (fits-parts k used xs h)
+
+-- the part that begins at p and has k words
+pub part-from : (xs : List ℕ) (p k : ℕ) → take (p + k - p) (drop p xs) ≡ take k (drop p xs)
+part-from xs p k = let e : p + k - p ≡ k = omega arith in ap (λ (x : ℕ). take x (drop p xs)) e

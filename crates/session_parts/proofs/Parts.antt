@@ -1,5 +1,5 @@
--- A part of a memory that begins at a place; and the mark words of a session in layout are those of the marks that it holds.
-use Prim.Native.Nat.{ℕ, _+_, _-_, _<_, _≤_}
+-- The mark words of a session in layout are those of the marks that it holds.
+use Prim.Native.Nat.{ℕ, _+_, _<_, _≤_}
 use native.Mathlib.Omega.{arith}
 use mathlib.Core.Path.{_≡_, sym, _∙_, ap, fun-ext}
 use mathlib.Core.Logic.{⊎-elim}
@@ -19,10 +19,6 @@ use Rattle.session.proofs.Decoded.{LayoutFacts, layout-facts, layout-limits, la
 use Rattle.session.proofs.Image.{mark-word}
 use Rattle.pair_tables.specs.Tables.{marked}
 use Rattle.pair_tables.proofs.Tabling.{unmarked}
-
--- the part that begins at p and has k words
-pub part-is : (xs : List ℕ) (p k : ℕ) → take (p + k - p) (drop p xs) ≡ take k (drop p xs)
-part-is xs p k = let e : p + k - p ≡ k = omega arith in ap (λ (x : ℕ). take x (drop p xs)) e
 
 module _ (xs : List ℕ) (h : inLayout xs ≡ true) where
   abbrev facts : LayoutFacts xs

@@ -5,7 +5,7 @@ use Prim.Native.Nat.{_≤_}
 use lib.ListN.{length, getD}
 use Rattle.session.specs.Limits.{maxStates, maxNodes}
 use Rattle.frames.specs.Machine.{Memory, memory, countsSize, wordsSize, outputSize, statesRead, nodesRead}
-use Rattle.frame_steps.proofs.Takes.{taken-short, long-enough, taken-wrong, counts-right, taken-before, taken-after}
+use Rattle.frames.proofs.Takes.{taken-short, long-enough, taken-wrong, counts-right, taken-before, taken-after}
 use Rattle.frame_machine.proofs.take_line.Statement.{statement}
 use Rattle.frame_machine.proofs.take_line.Tie as tie
 

@@ -2,9 +2,9 @@
 use borrow.Author.Needs.{needs}
 use native.Mathlib.Omega.{arith}
 use Rattle.frames.proofs.Few.{edited-few}
-use Rattle.frame_steps.proofs.Takes.{printed-front}
-use Rattle.frame_steps.proofs.edit_line.Statement.{statement}
-use Rattle.frame_steps.proofs.edit_line.Tie as tie
+use Rattle.frames.proofs.Takes.{printed-front}
+use Rattle.frames_after_run.proofs.edit_line.Statement.{statement}
+use Rattle.frames_after_run.proofs.edit_line.Tie as tie
 
 edit-requires : tie.Need-edit-requires
 edit-requires c κs = search needs

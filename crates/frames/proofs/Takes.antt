@@ -1,4 +1,5 @@
 -- What the machine's functions use of its promises.
+use Rattle.session.proofs.Tables.{part-from}
 use Prim.Native.Nat.{ℕ, _+_, _-_, _≤_}
 use native.Mathlib.Nat.{zero-add, sub-zero}
 use native.Mathlib.Omega.{arith}
@@ -17,14 +18,13 @@ use Rattle.listing.specs.Placed.{Placed}
 use Rattle.promises.specs.Answers.{refused}
 use Rattle.promises.specs.Rules.{rule, verdict, given}
 use Rattle.promises.proofs.Verdicts.{row-passed, row-broken, rows-end}
-use Rattle.session_parts.proofs.Parts.{part-is}
 use Rattle.frames.specs.declared.Frame as declared
 use Rattle.frames.specs.declared.Frame.the-variants as F
 use Rattle.frames.specs.declared.Taken.{Taken}
 use Rattle.frames.specs.declared.Taken.the-variants as T
 use Rattle.frames.specs.Frames.{said, frameOf}
 use Rattle.frames.specs.Outputs.{refusal}
 use Rattle.frames.specs.Machine.{
   Memory,
   memory,
   countsSize,
@@ -58,7 +58,7 @@ pub read-parts : (m : Memory) → let n = statesRead m in
     (take (32 + nodesRead m - 32) (drop 32 (m .words))) [] []
     ≡ readSoFar m
 unfolding readSoFar
-read-parts m = rw (sub-zero, part-is (m .words) 16 (statesRead m), part-is (m .counts) 3 (statesRead m), part-is (m .words) 32 (nodesRead m))
+read-parts m = rw (sub-zero, part-from (m .words) 16 (statesRead m), part-from (m .counts) 3 (statesRead m), part-from (m .words) 32 (nodesRead m))
 
 -- ---- a frame of the other moment: edits and the order are early, states, nodes and the run are late
 

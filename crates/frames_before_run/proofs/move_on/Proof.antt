@@ -4,8 +4,8 @@ use mathlib.Core.Path.{sym, ap}
 use Rattle.promises.specs.declared.Answer.{Answer}
 use Rattle.promises.specs.Answers.{told}
 use Rattle.frames.specs.Machine.{moved}
-use Rattle.frame_steps.proofs.move_on.Statement.{statement}
-use Rattle.frame_steps.proofs.move_on.Tie as tie
+use Rattle.frames_before_run.proofs.move_on.Statement.{statement}
+use Rattle.frames_before_run.proofs.move_on.Tie as tie
 
 enum-told : tie.Need-enum-told
 enum-told c = search needs

@@ -8,9 +8,9 @@ use lib.Seq.{length-take-le}
 use Rattle.session.proofs.Tables.{length-section}
 use Rattle.promises.specs.Answers.{toldOrder}
 use Rattle.frames.proofs.Few.{ordered-few}
-use Rattle.frame_steps.proofs.Takes.{printed-front}
-use Rattle.frame_steps.proofs.walk_line.Statement.{statement}
-use Rattle.frame_steps.proofs.walk_line.Tie as tie
+use Rattle.frames.proofs.Takes.{printed-front}
+use Rattle.frames_after_run.proofs.walk_line.Statement.{statement}
+use Rattle.frames_after_run.proofs.walk_line.Tie as tie
 
 order-requires : tie.Need-order-requires
 order-requires c κs = search needs

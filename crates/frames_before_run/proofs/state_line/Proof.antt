@@ -5,9 +5,9 @@ use native.Mathlib.Omega.{arith}
 use Prim.Native.Nat.{_+_}
 use mathlib.Core.Path.{refl}
 use lib.ListN.{getD, length-set}
-use Rattle.frame_steps.proofs.Takes.{printed-front}
-use Rattle.frame_steps.proofs.state_line.Statement.{statement}
-use Rattle.frame_steps.proofs.state_line.Tie as tie
+use Rattle.frames.proofs.Takes.{printed-front}
+use Rattle.frames_before_run.proofs.state_line.Statement.{statement}
+use Rattle.frames_before_run.proofs.state_line.Tie as tie
 
 slice-read-n : tie.Need-slice-read-n
 slice-read-n c = search needs

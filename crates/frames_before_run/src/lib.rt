@@ -1,4 +1,4 @@
-// What each frame does: a state or a node kept, a run, an edit, the order.
+// Frames before an accepted run: a state or a node is kept, and the run loads what was read.
 ghost use mathlib.Core.Path.{_≡_};
 ghost use mathlib.Core.List.{List};
 ghost use Prim.Native.Nat.{ℕ, _<_, _≤_};
@@ -6,18 +6,14 @@ ghost use lib.IntN.{ℤ};
 ghost use lib.ListN.{length, getD};
 ghost use Rattle.session.specs.Limits.{maxStates, maxNodes};
 ghost use Rattle.promises.specs.Answers.{told};
-ghost use Rattle.editing.specs.Steps.{kindOf};
 ghost use Rattle.frames.specs.Frames as f;
 ghost use Rattle.frames.specs.Machine as m;
 use answer_lines::put_answer;
-use answer_lines::put_order;
 use answer_lines::put_refusal;
-use edit_calls::edit;
+use frames::Frame;
 use frames::State;
 use loading::load;
 use promises::Answer;
-use promises::OrderAnswer;
-use questions::order;
 
 // The places of the counts and of the words, and how long the lent memory is at least.
 pub const LINKS_IN: usize = 3;
@@ -102,32 +98,23 @@ pub fn run_line(
     put_answer(out, answer, changes)
 }
 
-// Inserts or deletes an edge.
-pub fn edit_line(
+// A frame before an accepted run.
+pub fn before_run(
+    counts: &mut [u32],
+    words: &mut [u16],
     session: &mut [u32],
     changes: &mut [i32],
-    inserts: bool,
-    start: u32,
-    end: u32,
+    frame: Frame,
     out: &mut [u8],
 ) -> usize
-    requires { ⌜ m.outputSize ≤ length (now out) ⌝ }
-    ensures { λ r. ⌜ ((counts : List ℕ) → (words : List ℕ) → m.Changed (kindOf inserts) start end (m.memory counts words (now (session .entry)) (now (changes .entry)) (now (out .entry))) r (m.memory counts words (now (session .exit)) (now (changes .exit)) (now (out .exit)))) ⌝ }
+    requires { ⌜ (m.countsSize ≤ length (now counts)) × (m.wordsSize ≤ length (now words)) × (m.outputSize ≤ length (now out)) × (getD (now counts) 1 0 ≤ maxStates) × (getD (now counts) 2 0 ≤ maxNodes) ⌝ }
+    ensures { λ r. ⌜ m.Before (f.said frame) (m.memory (now (counts .entry)) (now (words .entry)) (now (session .entry)) (now (changes .entry)) (now (out .entry))) r (m.memory (now (counts .exit)) (now (words .exit)) (now (session .exit)) (now (changes .exit)) (now (out .exit))) ⌝ }
 {
-    let answer = edit(session, inserts, start, end, changes);
-    put_answer(out, answer, changes)
-}
-
-// Writes the depth-first order.
-pub fn walk_line(session: &[u32], out: &mut [u8]) -> usize
-    requires { ⌜ m.outputSize ≤ length (now out) ⌝ }
-    ensures { λ r. ⌜ ((counts : List ℕ) → (words : List ℕ) → (c : List ℤ) → m.Walked (m.memory counts words (now (session .entry)) c (now (out .entry))) r (m.memory counts words (now (session .entry)) c (now (out .exit)))) ⌝ }
-{
-    let walk = order(session);
-    let answer = walk.answer;
-    let states = walk.states;
-    match answer {
-        OrderAnswer::Listed(n) => put_order(out, 0, &states[..n as usize]),
-        OrderAnswer::Refused(n) => put_refusal(out, 0, n),
+    match frame {
+        Frame::State(state) => state_line(counts, words, state, out),
+        Frame::Node(sample) => node_line(counts, words, sample, out),
+        Frame::Run => run_line(counts, words, session, changes, out),
+        Frame::Nothing => put_refusal(out, 0, 1),
+        _ => put_refusal(out, 0, 2),
     }
 }

@@ -4,9 +4,9 @@ use borrow.Author.Tests.{le-leb, lt-leb}
 use mathlib.Core.Path.{refl}
 use native.Mathlib.Omega.{arith}
 use lib.ListN.{getD}
-use Rattle.frame_steps.proofs.Takes.{printed-front}
-use Rattle.frame_steps.proofs.node_line.Statement.{statement}
-use Rattle.frame_steps.proofs.node_line.Tie as tie
+use Rattle.frames.proofs.Takes.{printed-front}
+use Rattle.frames_before_run.proofs.node_line.Statement.{statement}
+use Rattle.frames_before_run.proofs.node_line.Tie as tie
 
 slice-read-n : tie.Need-slice-read-n
 slice-read-n c = search needs

@@ -1,8 +1,8 @@
 -- Each frame by its function.
 use borrow.Author.Needs.{needs}
-use Rattle.frame_steps.proofs.Takes.{printed-front, late}
-use Rattle.frame_machine.proofs.after_run.Statement.{statement}
-use Rattle.frame_machine.proofs.after_run.Tie as tie
+use Rattle.frames.proofs.Takes.{printed-front, late}
+use Rattle.frames_after_run.proofs.after_run.Statement.{statement}
+use Rattle.frames_after_run.proofs.after_run.Tie as tie
 
 enum-known-frame : tie.Need-enum-known-frame
 enum-known-frame c = search needs

@@ -6,9 +6,9 @@ use Rattle.promises.specs.Rules.{Given}
 use Rattle.promises.specs.Promises.{Loaded}
 use Rattle.frames.specs.Machine.{memory}
 use Rattle.frames.proofs.Few.{loaded-few}
-use Rattle.frame_steps.proofs.Takes.{printed-front, read-parts}
-use Rattle.frame_steps.proofs.run_line.Statement.{statement}
-use Rattle.frame_steps.proofs.run_line.Tie as tie
+use Rattle.frames.proofs.Takes.{printed-front, read-parts}
+use Rattle.frames_before_run.proofs.run_line.Statement.{statement}
+use Rattle.frames_before_run.proofs.run_line.Tie as tie
 
 slice-read-states : tie.Need-slice-read-states
 slice-read-states c = search needs

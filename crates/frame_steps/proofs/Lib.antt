@@ -1,2 +1,0 @@
--- The laws by which a line's step meets its promise.
-pub mod Takes
