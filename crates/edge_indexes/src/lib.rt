@@ -8,7 +8,7 @@ ghost use Rattle.session.specs.Layout.{below};
 ghost use Rattle.edge_indexes.specs.Indexes.{Indexed, Noted, filled, Started, edgesFrom};
 ghost use Rattle.simulation.specs.Ordered.{ascends};
 
-// Builds the index in tables that are zero.
+// Builds the index of the edges that end at each node, in tables that are zero.
 pub fn index(edges: &[u32], heads: &mut [u32], nexts: &mut [u32])
     requires { ⌜ (length (now edges) ≤ maxEdges) × (length (now heads) ≡ maxNodes) × (length (now nexts) ≡ maxEdges) ⌝ }
     requires { ⌜ ((v : ℕ) → getD (now heads) v 0 ≡ 0) ⌝ }
@@ -57,7 +57,7 @@ pub fn fill_in(firsts: &mut [u32])
     }
 }
 
-// Builds the index in a table that is zero.
+// Builds the index of where the edges of each node begin, in a table that is zero.
 pub fn index_starts(edges: &[u32], firsts: &mut [u32])
     requires { ⌜ (length (now edges) ≤ maxEdges) × (ascends (now edges) ≡ true) × (below 262144 (now edges) ≡ true) × (length (now firsts) ≡ 513) ⌝ }
     requires { ⌜ ((v : ℕ) → getD (now firsts) v 0 ≡ 0) ⌝ }

@@ -15,7 +15,7 @@ use frames::State;
 use loading::load;
 use promises::Answer;
 
-// The places of the counts and of the words, and how long the lent memory is at least.
+// The places of the counts and of the words.
 pub const LINKS_IN: usize = 3;
 
 pub const VALUES_IN: usize = 16;

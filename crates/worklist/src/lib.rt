@@ -86,7 +86,7 @@ pub fn call_one(waiting: &mut [u32], edge: u32, node: usize, table: &[u32], word
     }
 }
 
-// The same of all edges, without an index.
+// Puts every such node in by all edges, without an index.
 pub fn call_in_by_edges(waiting: &mut [u32], edges: &[u32], node: usize, table: &[u32], word: u32)
     requires { ⌜ (length (now waiting) ≡ 16) × (node < maxNodes) × (length (now edges) ≤ maxEdges) × (length (now table) ≡ maxNodes) ⌝ }
     requires { ⌜ below 262144 (now edges) ≡ true ⌝ }
@@ -99,7 +99,7 @@ pub fn call_in_by_edges(waiting: &mut [u32], edges: &[u32], node: usize, table: 
     }
 }
 
-// By the index, or by all edges where there is none.
+// Puts every such node in: by the index, or by all edges where there is none.
 pub fn call_in(
     waiting: &mut [u32],
     edges: &[u32],
