@@ -54,7 +54,7 @@ pub fn put_pair(out: &mut [u8], at: usize, first: u32, second: u32) -> usize
 // Writes the line of a report.
 pub fn put_report(out: &mut [u8], at: usize, fires: bool, trials: u32, changes: u32) -> usize
     requires { ⌜ at + 13 ≤ length (now out) ⌝ }
-    ensures { λ r. ⌜ Placed (now (out .entry)) at (o.accepted fires trials changes) (now (out .exit)) r ⌝ }
+    ensures { λ r. ⌜ Placed (now (out .entry)) at (o.reportLine fires trials changes) (now (out .exit)) r ⌝ }
 {
     let next = put_head(out, at, 128, fires as u32);
     put_pair(out, next, trials, changes)

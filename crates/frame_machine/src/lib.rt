@@ -3,6 +3,7 @@ ghost use mathlib.Core.Path.{_≡_};
 ghost use Rattle.session.specs.Limits.{maxStates, maxNodes, fixedSize, maxChanges};
 ghost use mathlib.Core.Bool.{_||_};
 ghost use lib.Dec.{ltb};
+ghost use Rattle.promises.specs.Rules.{verdict};
 ghost use Rattle.frames.specs.Machine as m;
 use frame_reading::read_frame;
 use frames::Taken;
@@ -31,7 +32,27 @@ pub fn miscounted(moment: u32, states: u32, nodes: u32) -> bool
     1 < moment || ((session::MAX_STATES as u32) < states || (session::MAX_NODES as u32) < nodes)
 }
 
-// Takes a line: the lines of its answer are put at the front of the output.
+// Answers a line in memory that breaks none of its own rules: the lines of its answer are put at the front of the output.
+pub fn answer_line(
+    counts: &mut [u32],
+    words: &mut [u16],
+    session: &mut [u32],
+    changes: &mut [i32],
+    line: &[u8],
+    out: &mut [u8],
+) -> usize
+    requires { ⌜ verdict (m.memoryRules (m.memory (now counts) (now words) (now session) (now changes) (now out))) ≡ 0 ⌝ }
+    ensures { λ r. ⌜ m.Answers (m.memory (now (counts .entry)) (now (words .entry)) (now (session .entry)) (now (changes .entry)) (now (out .entry))) (now (line .entry)) r (m.memory (now (counts .exit)) (now (words .exit)) (now (session .exit)) (now (changes .exit)) (now (out .exit))) ⌝ }
+{
+    let frame = read_frame(line);
+    if counts[0] == 0 {
+        before_run(counts, words, session, changes, frame, out)
+    } else {
+        after_run(session, changes, frame, out)
+    }
+}
+
+// Takes a line in any memory. The memory's own rules come first: where they are broken there is no place to answer in.
 pub fn take_line(
     counts: &mut [u32],
     words: &mut [u16],
@@ -54,11 +75,5 @@ pub fn take_line(
     if miscounted(counts[0], counts[1], counts[2]) {
         return Taken::Refused(10);
     }
-    let frame = read_frame(line);
-    let written = if counts[0] == 0 {
-        before_run(counts, words, session, changes, frame, out)
-    } else {
-        after_run(session, changes, frame, out)
-    };
-    Taken::Written(written)
+    Taken::Written(answer_line(counts, words, session, changes, line, out))
 }

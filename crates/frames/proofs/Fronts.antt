@@ -1,20 +1,22 @@
--- The front of a line is enough to tell its frame.
-use Prim.Native.Nat.{ℕ, zero, suc, _+_, _-_, _<_, _≤_}
+-- The front of a line: it is enough to tell its frame, and it is kept byte by byte.
+use Prim.Native.Nat.{ℕ, suc, _+_, _-_, _<_, _≤_}
 use native.Mathlib.Omega.{arith}
 use native.Mathlib.Numerals.{add-one}
 use mathlib.Core.Path.{_≡_, refl, sym, _∙_, ap, ap₂, subst}
-use mathlib.Core.Logic.{⊎-elim}
-use mathlib.Core.Bool.{Bool, true, false, _&&_, cond}
-use mathlib.Core.List.{List, [], _∷_, _++_, map, flatten}
+use mathlib.Core.Logic.{_⊎_, inl, inr, ⊎-elim}
+use mathlib.Core.Bool.{Bool, true, false, _&&_, _||_, cond}
+use mathlib.Core.List.{List, [], _∷_, _++_, append-nil, append-assoc}
 use lib.Dec.{leb, eqb}
-use lib.ListN.{length, getD, set, take, drop, length-append, length-take, length-drop, length-set, drop-of-length-le}
-use lib.Seq.{take-all, take-append-le, take-suc-set, take-take, length-take-le, take-append-seam, take-nil, drop-cons, drop-drop, drop-set-lt}
+use lib.ListN.{length, getD, set, take, drop, length-append, length-take, length-drop, take-append-drop, drop-of-length-le}
+use lib.Seq.{take-all, take-append-le, take-take, length-take-le, take-append-seam, drop-append-seam, take-suc-set, drop-set-lt, drop-length, drop-cons, drop-drop}
 use borrow.Author.Tests.{eq-eqb, ne-eqb}
 use Rattle.simulation.proofs.Sets.{clash, and-none}
 use Rattle.simulation.proofs.Search.{lt-or-le}
 use Rattle.frames.specs.Digits.{hexadecimal, number}
 use Rattle.frames.specs.Frames.{Frame, nothing, spoken, frameOf}
-use Rattle.frames.specs.Lines.{linesAfter, lines, kept, gathered, Pushed, Gathers, Gathering, over-empty, over-line, line-ended, block-over}
+use Rattle.frames.specs.Lines.{linesAfter, lineEnds, lineIn, kept, frontWith, Keeps, Gathers}
+
+-- ---- the front of a line tells its frame
 
 -- more fields than any kind has
 spoken-long : (kind : ℕ) (ds : List ℕ) → 12 < length ds → spoken kind ds ≡ nothing
@@ -25,7 +27,7 @@ spoken-long kind ds l =
     rw (no 1 12 (omega arith), no 2 4 (omega arith), no 3 0 (omega arith), no 4 8 (omega arith), no 5 8 (omega arith), no 6 0 (omega arith))
 
 -- a line longer than any frame is none
-pub line-long : (line : List ℕ) → 14 < length line → frameOf line ≡ nothing
+line-long : (line : List ℕ) → 14 < length line → frameOf line ≡ nothing
 unfolding frameOf
 line-long line l = by (leb 2 (length line) && hexadecimal line)
   where
@@ -33,174 +35,223 @@ line-long line l = by (leb 2 (length line) && hexadecimal line)
     by true = spoken-long (number (take 2 line)) (drop 2 line) (omega (arith, length-drop 2 line))
     by false = refl
 
+-- the front kept of a line, and the line: the same, or both longer than any frame
+abbrev pub Like : List ℕ → List ℕ → Type 0
+Like front line = (front ≡ line) ⊎ ((14 < length front) × (14 < length line))
+
+pub like-frame : (front line : List ℕ) → Like front line → frameOf front ≡ frameOf line
+like-frame front line h = ⊎-elim (λ e. ap frameOf e) (λ l. line-long front (l .0) ∙ sym (line-long line (l .1))) h
+
+-- with the same bytes after both, and of the front no more than a memory holds
+pub like-more : (n : ℕ) (front line bytes : List ℕ) → kept ≤ n → Like front line → Like (take n (front ++ bytes)) (line ++ bytes)
+like-more n front line bytes h k =
+    ⊎-elim
+    (λ e.
+    ⊎-elim
+    (λ l. inr (omega (arith, length-take n (front ++ bytes)), omega (arith, ap length (ap (λ (w : List ℕ). w ++ bytes) e))))
+    (λ l. inl (take-all n (front ++ bytes) l ∙ ap (λ (w : List ℕ). w ++ bytes) e))
+    (lt-or-le n (length (front ++ bytes))))
+    (λ l. inr (omega (arith, l .0, length-take n (front ++ bytes), length-append front bytes), omega (arith, l .1, length-append line bytes)))
+    k
+
 -- of a line a front longer than any frame is enough
 pub front-enough : (n : ℕ) (line : List ℕ) → kept ≤ n → frameOf (take n line) ≡ frameOf line
-front-enough n line h =
+front-enough n line h = like-frame (take n line) line (like-more n [] [] line h (inl refl))
+
+-- ---- bytes kept after a front
+
+take-front : (n : ℕ) (line bytes : List ℕ) → take n (take n line ++ bytes) ≡ take n (line ++ bytes)
+take-front n line bytes =
     ⊎-elim
-    (λ l. line-long (take n line) (omega (arith, length-take n line)) ∙ sym (line-long line (omega arith)))
-    (λ l. ap frameOf (take-all n line l))
+    (λ l.
+    let long : length (take n line) ≡ n = length-take-le n line (omega arith) in
+    take-append-le n (take n line) bytes (omega (arith, long))
+    ∙ take-take n n line (omega arith)
+    ∙ sym (take-append-le n line bytes (omega arith)))
+    (λ l. ap (λ (w : List ℕ). take n (w ++ bytes)) (take-all n line l))
     (lt-or-le n (length line))
-
--- ---- a byte more
-
-pub pushed-in : (memory : List ℕ) (used c : ℕ) → used < length memory → Pushed memory used c (set memory used c) (used + 1)
-pushed-in memory used c l = record {
-  long = length-set memory used c;
-  inside = λ h. omega arith;
-  full = λ h. absurd (omega arith);
-  front = ap (λ (k : ℕ). take k (set memory used c)) (add-one used)
-      ∙ take-suc-set memory used c l
-      ∙ sym (take-all (length memory) (take used memory ++ (c ∷ [])) (simp (length-append, length-take) (omega arith)));
-  beyond = drop-set-lt (used + 1) memory used c (omega arith);
-}
-
-pub pushed-out : (memory : List ℕ) (used c : ℕ) → length memory ≤ used → Pushed memory used c memory used
-pushed-out memory used c h = record {
-  long = refl;
-  inside = λ l. l;
-  full = λ l. refl;
-  front = rw (take-all used memory h) (sym (take-append-seam memory (c ∷ [])));
-  beyond = refl;
-}
-
--- the front does not get shorter
-pushed-grows : {memory : List ℕ} {used c : ℕ} {memory' : List ℕ} {used' : ℕ} → Pushed memory used c memory' used' → used ≤ used'
-pushed-grows {memory} {used} p =
-    ⊎-elim
-    (λ (l : used < length memory). omega (arith, simp (length-take, length-append) at (ap length (p .front))))
-    (λ (l : length memory ≤ used). omega (arith, p .full l))
-    (lt-or-le used (length memory))
 
 drop-more : (a b : List ℕ) (j k : ℕ) → j ≤ k → drop j a ≡ drop j b → drop k a ≡ drop k b
 drop-more a b j k h e =
     let k-is : j + (k - j) ≡ k = omega arith in
     subst (λ (i : ℕ). drop i a ≡ drop i b) k-is (sym (drop-drop (k - j) j a) ∙ ap (drop (k - j)) e ∙ drop-drop (k - j) j b)
 
--- ---- bytes taken one by one
+module _ (memory : List ℕ) (used : ℕ) where
+  -- the whole front at first, or all of the memory
+  pub keeps-part : used ≤ length memory → Keeps memory used [] memory used
+  keeps-part l =
+      let front : frontWith memory used [] ≡ take used memory =
+      ap (take (length memory)) (append-nil (take used memory)) ∙ take-all (length memory) (take used memory) (omega (arith, length-take used memory)) in
+      let long : used ≡ length (take used memory) = sym (length-take-le used memory l) in
+      record {
+        many = long ∙ ap length (sym front);
+        left = rw (front, ← long) (sym (take-append-drop used memory));
+      }
 
--- the bytes before `rest` are taken, and no line ended in them
-pub record Taken (memory : List ℕ) (used : ℕ) (bytes memory' : List ℕ) (used' : ℕ) (rest : List ℕ) : Type 0 where
-  pub long : length memory' ≡ length memory
-  pub inside : used ≤ length memory → used' ≤ length memory
-  pub full : length memory ≤ used → used' ≡ used
-  pub beyond : drop used' memory' ≡ drop used' memory
-  pub shorter : length rest ≤ length bytes
-  pub lines : (more : List ℕ) → gathered (length memory) (take used memory) (bytes ++ more)
-      ≡ gathered (length memory) (take used' memory') (rest ++ more)
+  module _ (over : length memory ≤ used) (bytes : List ℕ) where
+    pub keeps-full : Keeps memory used bytes memory (length memory)
+    keeps-full =
+        let front : frontWith memory used bytes ≡ memory =
+        ap (λ (w : List ℕ). take (length memory) (w ++ bytes)) (take-all used memory over) ∙ take-append-seam memory bytes in
+        record {
+          many = ap length (sym front);
+          left = rw (front, drop-length memory) (sym (append-nil memory));
+        }
+
+  -- one byte more
+  pub keeps-byte : (c : ℕ) → used < length memory → Keeps memory used (c ∷ []) (set memory used c) (used + 1)
+  keeps-byte c l =
+      let long : length (take used memory ++ (c ∷ [])) ≡ used + 1 =
+      length-append (take used memory) (c ∷ []) ∙ ap (λ (k : ℕ). k + 1) (length-take-le used memory (omega arith)) in
+      let front : frontWith memory used (c ∷ []) ≡ take used memory ++ (c ∷ []) =
+      take-all (length memory) (take used memory ++ (c ∷ [])) (omega (arith, long)) in
+      record {
+        many = sym (ap length front ∙ long);
+        left = rw (front, long)
+            (sym (take-append-drop (used + 1) (set memory used c))
+            ∙ ap₂ _++_ (ap (λ (k : ℕ). take k (set memory used c)) (add-one used) ∙ take-suc-set memory used c l)
+            (drop-set-lt (used + 1) memory used c (omega arith)));
+      }
+
+-- the front is what it says, and no longer than its memory
+module _ (memory : List ℕ) (used : ℕ) (bytes memory' : List ℕ) (used' : ℕ) (k : Keeps memory used bytes memory' used') where
+  pub keeps-front : take used' memory' ≡ frontWith memory used bytes
+  keeps-front = ap₂ take (k .many) (k .left) ∙ take-append-seam (frontWith memory used bytes) _
+
+  pub keeps-inside : used' ≤ length memory
+  keeps-inside = omega (arith, k .many, length-take (length memory) (take used memory ++ bytes))
+
+  pub keeps-long : length memory' ≡ length memory
+  keeps-long =
+      ap length (k .left)
+      ∙ length-append (frontWith memory used bytes) (drop (length (frontWith memory used bytes)) memory)
+      ∙ omega (arith, k .many, keeps-inside, length-drop (length (frontWith memory used bytes)) memory)
+
+  keeps-beyond : drop used' memory' ≡ drop used' memory
+  keeps-beyond = rw (k .many, k .left) (drop-append-seam (frontWith memory used bytes) _)
+
+  -- bytes kept, and then more bytes
+  pub keeps-more : (more memory'' : List ℕ) (used'' : ℕ) → Keeps memory' used' more memory'' used'' → Keeps memory used (bytes ++ more) memory'' used''
+  keeps-more more memory'' used'' n =
+      let front : frontWith memory' used' more ≡ frontWith memory used (bytes ++ more) =
+      rw (keeps-long, keeps-front)
+      (take-front (length memory) (take used memory ++ bytes) more ∙ ap (take (length memory)) (append-assoc (take used memory) bytes more)) in
+      let grows : used' ≤ used'' =
+      omega (arith, n .many, keeps-inside, keeps-long, length-take (length memory') (take used' memory' ++ more), length-append (take used' memory') more, length-take used' memory') in
+      record {
+        many = n .many ∙ ap length front;
+        left =
+            n .left
+            ∙ ap₂ _++_ front
+            (ap (λ (j : ℕ). drop j memory') (sym (n .many))
+            ∙ drop-more memory' memory used' used'' grows keeps-beyond
+            ∙ ap (λ (j : ℕ). drop j memory) (n .many ∙ ap length front));
+      }
+
+-- nothing kept after it: the front as it was
+pub keeps-same : (memory : List ℕ) (used used' : ℕ) → Keeps memory used [] memory used' → take used' memory ≡ take used memory
+keeps-same memory used used' k =
+    keeps-front memory used [] memory used' k
+    ∙ ap (take (length memory)) (append-nil (take used memory))
+    ∙ take-all (length memory) (take used memory) (omega (arith, length-take used memory))
+
+-- ---- bytes gathered one by one
+
+-- the bytes before the place `next` are taken, and no line ended in them
+pub record Sofar (memory : List ℕ) (used : ℕ) (block : List ℕ) (at : ℕ) (memory' : List ℕ) (used' next : ℕ) : Type 0 where
+  pub bytes : List ℕ
+  pub keeps : Keeps memory used bytes memory' used'
+  pub line : lineIn (drop at block) ≡ bytes ++ lineIn (drop next block)
+  pub ends : lineEnds (drop at block) ≡ lineEnds (drop next block)
+  pub place : next ≡ at + length bytes
 
 module _ (memory : List ℕ) (used : ℕ) (block : List ℕ) (at : ℕ) where
-  pub taken-start : Taken memory used (drop at block) memory used (drop at block)
-  taken-start = record { long = refl; inside = λ h. h; full = λ h. refl; beyond = refl; shorter = omega arith; lines = λ more. refl }
+  pub sofar-start : (used' : ℕ) → Keeps memory used [] memory used' → Sofar memory used block at memory used' at
+  sofar-start used' k = record { bytes = []; keeps = k; line = refl; ends = refl; place = omega arith }
 
-  module _ (memory' : List ℕ) (used' next : ℕ) (t : Taken memory used (drop at block) memory' used' (drop next block)) where
-    -- the next byte is at hand
-    taken-next : next < length block → (more : List ℕ) → gathered (length memory) (take used memory) (drop at block ++ more)
-        ≡ gathered (length memory) (take used' memory') (getD block next 0 ∷ (drop (next + 1) block ++ more))
-    taken-next l more =
-        t .lines more
-        ∙ ap (λ (w : List ℕ). gathered (length memory) (take used' memory') (w ++ more))
-        (drop-cons block next 0 l ∙ ap (λ (k : ℕ). getD block next 0 ∷ drop k block) (sym (add-one next)))
+  module _ (memory' : List ℕ) (used' next : ℕ) (s : Sofar memory used block at memory' used' next) where
+    rest-is : next < length block → drop next block ≡ getD block next 0 ∷ drop (next + 1) block
+    rest-is l = drop-cons block next 0 l ∙ ap (λ (k : ℕ). getD block next 0 ∷ drop k block) (sym (add-one next))
 
-    taken-less : next < length block → length (drop (next + 1) block) < length (drop at block)
-    taken-less l = omega (arith, t .shorter, length-drop (next + 1) block, length-drop next block)
-
-    pub taken-more : next < length block → (getD block next 0 ≡ 10 → ⊥) → (memory'' : List ℕ) (used'' : ℕ)
-        → Pushed memory' used' (getD block next 0) memory'' used'' → Taken memory used (drop at block) memory'' used'' (drop (next + 1) block)
-    unfolding gathered
-    taken-more l n memory'' used'' p = record {
-      long = p .long ∙ t .long;
-      inside = λ h. let a = t .inside h in let b = p .inside (omega (arith, a, t .long)) in omega (arith, b, t .long);
-      full = λ h. let a = t .full h in p .full (omega (arith, a, t .long)) ∙ a;
-      beyond = p .beyond ∙ drop-more memory' memory used' used'' (pushed-grows p) (t .beyond);
-      shorter = omega (arith, taken-less l);
-      lines = λ more.
-          taken-next l more
-          ∙ rw (ne-eqb (getD block next 0) 10 n)
-          (ap (λ (w : List ℕ). gathered (length memory) w (drop (next + 1) block ++ more))
-          (sym (p .front ∙ ap (λ (k : ℕ). take k (take used' memory' ++ (getD block next 0 ∷ []))) (t .long))));
-    }
+    pub sofar-more : next < length block → (getD block next 0 ≡ 10 → ⊥) → (memory'' : List ℕ) (used'' : ℕ)
+        → Keeps memory' used' (getD block next 0 ∷ []) memory'' used'' → Sofar memory used block at memory'' used'' (next + 1)
+    unfolding lineIn lineEnds
+    sofar-more l n memory'' used'' k =
+        let c = getD block next 0 in
+        let other = ne-eqb (getD block next 0) 10 n in
+        record {
+          bytes = s .bytes ++ (c ∷ []);
+          keeps = keeps-more memory used (s .bytes) memory' used' (s .keeps) (c ∷ []) memory'' used'' k;
+          line =
+              s .line
+              ∙ ap (λ (w : List ℕ). s .bytes ++ lineIn w) (rest-is l)
+              ∙ rw other (sym (append-assoc (s .bytes) (c ∷ []) (lineIn (drop (next + 1) block))));
+          ends = s .ends ∙ ap lineEnds (rest-is l) ∙ rw other refl;
+          place = omega (arith, s .place, length-append (s .bytes) (c ∷ []));
+        }
 
     -- a line feed ends the line
-    pub taken-line : next < length block → getD block next 0 ≡ 10 → Gathers memory used (drop at block) memory' used' (drop (next + 1) block) true
-    unfolding gathered
-    taken-line l e = record {
-      long = t .long;
-      inside = t .inside;
-      full = t .full;
-      beyond = t .beyond;
-      over = λ f. clash refl f;
-      shorter = λ h. taken-less l;
-      lines = λ more. taken-next l more ∙ rw (eq-eqb (getD block next 0) 10 e) refl;
-    }
+    pub sofar-line : next < length block → getD block next 0 ≡ 10 → Gathers memory used block at memory' used' (next + 1) true
+    unfolding lineIn lineEnds
+    sofar-line l e =
+        let feed = eq-eqb (getD block next 0) 10 e in
+        let line : lineIn (drop at block) ≡ s .bytes =
+        s .line ∙ ap (λ (w : List ℕ). s .bytes ++ lineIn w) (rest-is l) ∙ rw feed (append-nil (s .bytes)) in
+        record {
+          front = rw line (s .keeps);
+          told = sym (s .ends ∙ ap lineEnds (rest-is l) ∙ rw feed refl);
+          place = rw line (omega (arith, s .place));
+        }
 
     -- the block is over
-    pub taken-all : length block ≤ next → Gathers memory used (drop at block) memory' used' (drop next block) false
-    taken-all l = record {
-      long = t .long;
-      inside = t .inside;
-      full = t .full;
-      beyond = t .beyond;
-      over = λ f. drop-of-length-le block l;
-      shorter = λ h. clash h refl;
-      lines = λ more. t .lines more ∙ ap (λ (w : List ℕ). gathered (length memory) (take used' memory') (w ++ more)) (drop-of-length-le block l);
-    }
+    pub sofar-over : length block ≤ next → Gathers memory used block at memory' used' (length block) false
+    unfolding lineIn lineEnds
+    sofar-over l =
+        let over = drop-of-length-le block l in
+        let line : lineIn (drop at block) ≡ s .bytes =
+        s .line ∙ ap (λ (w : List ℕ). s .bytes ++ lineIn w) over ∙ append-nil (s .bytes) in
+        record {
+          front = rw line (s .keeps);
+          told = sym (s .ends ∙ ap lineEnds over);
+          place = refl;
+        }
 
--- ---- the lines of an input, from their fronts
+-- ---- the lines of an input, a block at a time
 
-front-more : (n : ℕ) (line : List ℕ) (c : ℕ) → take n (take n line ++ (c ∷ [])) ≡ take n (line ++ (c ∷ []))
-front-more n line c =
-    ⊎-elim
-    (λ l.
-    let long : length (take n line) ≡ n = length-take-le n line (omega arith) in
-    take-append-le n (take n line) (c ∷ []) (omega (arith, long))
-    ∙ take-take n n line (omega arith)
-    ∙ sym (take-append-le n line (c ∷ []) (omega arith)))
-    (λ l. ap (λ (w : List ℕ). take n (w ++ (c ∷ []))) (take-all n line l))
-    (lt-or-le n (length line))
-
-fronts-over : (n : ℕ) → 0 < n → (line : List ℕ) → gathered n (take n line) [] ≡ map (take n) (linesAfter line [])
-unfolding gathered linesAfter
-fronts-over zero h line = absurd (omega arith)
-fronts-over (suc n) h [] = refl
-fronts-over (suc n) h (b ∷ line) = refl
-
-pub gathered-fronts : (n : ℕ) → 0 < n → (line cs : List ℕ) → gathered n (take n line) cs ≡ map (take n) (linesAfter line cs)
-unfolding gathered linesAfter
-gathered-fronts n h line [] = fronts-over n h line
-gathered-fronts n h line (c ∷ cs) = by (eqb c 10) (rw (take-nil n) at (gathered-fronts n h [] cs)) (gathered-fronts n h (line ++ (c ∷ [])) cs)
+-- no line ends in the bytes: they are a front of the next
+pub line-open : (bytes : List ℕ) → lineEnds bytes ≡ false → lineIn bytes ≡ bytes
+unfolding lineEnds lineIn
+line-open [] h = refl
+line-open (c ∷ cs) h = by (eqb c 10) h (line-open cs)
   where
-    by : (b : Bool) → gathered n [] cs ≡ map (take n) (linesAfter [] cs)
-        → gathered n (take n (line ++ (c ∷ []))) cs ≡ map (take n) (linesAfter (line ++ (c ∷ [])) cs)
-        → cond b (take n line ∷ gathered n [] cs) (gathered n (take n (take n line ++ (c ∷ []))) cs)
-        ≡ map (take n) (cond b (line ∷ linesAfter [] cs) (linesAfter (line ++ (c ∷ [])) cs))
-    by true ended more = ap (λ (ls : List (List ℕ)). take n line ∷ ls) ended
-    by false ended more = ap (λ (w : List ℕ). gathered n w cs) (front-more n line c) ∙ more
+    by : (b : Bool) → (b || lineEnds cs) ≡ false → (lineEnds cs ≡ false → lineIn cs ≡ cs) → cond b [] (c ∷ lineIn cs) ≡ c ∷ cs
+    by true f more = clash refl f
+    by false f more = ap (λ (w : List ℕ). c ∷ w) (more f)
 
-map-fronts : (n : ℕ) → kept ≤ n → (ls : List (List ℕ)) → map frameOf (map (take n) ls) ≡ map frameOf ls
-map-fronts n h [] = refl
-map-fronts n h (line ∷ ls) = ap₂ (λ (x : Frame) (xs : List Frame). x ∷ xs) (front-enough n line h) (map-fronts n h ls)
+pub lines-open : (begun bytes more : List ℕ) → lineEnds bytes ≡ false → linesAfter begun (bytes ++ more) ≡ linesAfter (begun ++ bytes) more
+unfolding lineEnds linesAfter
+lines-open begun [] more h = ap (λ (w : List ℕ). linesAfter w more) (sym (append-nil begun))
+lines-open begun (c ∷ cs) more h = by (eqb c 10) h (lines-open (begun ++ (c ∷ [])) cs more)
+  where
+    by : (b : Bool) → (b || lineEnds cs) ≡ false
+        → (lineEnds cs ≡ false → linesAfter (begun ++ (c ∷ [])) (cs ++ more) ≡ linesAfter ((begun ++ (c ∷ [])) ++ cs) more)
+        → cond b (begun ∷ linesAfter [] (cs ++ more)) (linesAfter (begun ++ (c ∷ [])) (cs ++ more)) ≡ linesAfter (begun ++ (c ∷ cs)) more
+    by true f next = clash refl f
+    by false f next = next f ∙ ap (λ (w : List ℕ). linesAfter w more) (append-assoc begun (c ∷ []) cs)
 
--- what is gathered from an input has the frames of its lines
-pub gathered-frames : (n : ℕ) → kept ≤ n → (bytes : List ℕ) → map frameOf (gathered n [] bytes) ≡ map frameOf (lines bytes)
-gathered-frames n h bytes =
-    ap (map frameOf) (ap (λ (w : List ℕ). gathered n w bytes) (sym (take-nil n)) ∙ gathered-fronts n (omega arith) [] bytes)
-    ∙ map-fronts n h (lines bytes)
-
--- ---- an input in blocks
-
--- however the input is cut into blocks, the fronts are those of the whole
-pub gathering-fronts : {n : ℕ} {front : List ℕ} {blocks fronts : List (List ℕ)} → Gathering n front blocks fronts
-    → fronts ≡ gathered n front (flatten blocks)
-unfolding gathered flatten
-gathering-fronts over-empty = refl
-gathering-fronts over-line = refl
-gathering-fronts (line-ended {blocks = blocks} memory used memory' used' rest long front-is g more) =
-    ap (λ (fs : List (List ℕ)). take used' memory' ∷ fs) (gathering-fronts more)
-    ∙ rw (← long, ← front-is) (sym (g .lines (flatten blocks)))
-gathering-fronts (block-over {blocks = blocks} memory used memory' used' rest long front-is g more) =
-    gathering-fronts more ∙ rw (← long, ← front-is) (sym (g .lines (flatten blocks)))
-
--- and their frames those of the input's lines
-pub gathering-frames : {n : ℕ} {blocks fronts : List (List ℕ)} → kept ≤ n → Gathering n [] blocks fronts
-    → map frameOf fronts ≡ map frameOf (lines (flatten blocks))
-gathering-frames {n} {blocks} h g = ap (map frameOf) (gathering-fronts g) ∙ gathered-frames n h (flatten blocks)
+-- a line ends in them
+pub lines-ended : (begun bytes more : List ℕ) → lineEnds bytes ≡ true
+    → linesAfter begun (bytes ++ more) ≡ (begun ++ lineIn bytes) ∷ linesAfter [] (drop (suc (length (lineIn bytes))) bytes ++ more)
+unfolding lineEnds lineIn linesAfter
+lines-ended begun [] more h = clash h refl
+lines-ended begun (c ∷ cs) more h = by (eqb c 10) h (lines-ended (begun ++ (c ∷ [])) cs more)
+  where
+    by : (b : Bool) → (b || lineEnds cs) ≡ true
+        → (lineEnds cs ≡ true → linesAfter (begun ++ (c ∷ [])) (cs ++ more)
+        ≡ ((begun ++ (c ∷ [])) ++ lineIn cs) ∷ linesAfter [] (drop (suc (length (lineIn cs))) cs ++ more))
+        → cond b (begun ∷ linesAfter [] (cs ++ more)) (linesAfter (begun ++ (c ∷ [])) (cs ++ more))
+        ≡ (begun ++ cond b [] (c ∷ lineIn cs)) ∷ linesAfter [] (drop (suc (length (cond b [] (c ∷ lineIn cs)))) (c ∷ cs) ++ more)
+    by true f next = ap (λ (w : List ℕ). w ∷ linesAfter [] (cs ++ more)) (sym (append-nil begun))
+    by false f next =
+        next f
+        ∙ ap (λ (w : List ℕ). w ∷ linesAfter [] (drop (suc (length (lineIn cs))) cs ++ more)) (append-assoc begun (c ∷ []) (lineIn cs))

@@ -6,18 +6,17 @@ use mathlib.Core.Path.{_≡_, refl, sym, _∙_, ap, ap₂, subst}
 use mathlib.Core.List.{List, [], _∷_, _++_}
 use lib.ListN.{length, getD, set, take, drop, length-set, length-drop}
 use lib.Seq.{getD-set-same, getD-set-other, take-set-le, drop-set-lt, drop-set-add, take-suc-set}
-use Rattle.session.specs.Limits.{maxStates, maxNodes, fixedSize}
+use Rattle.session.specs.Limits.{maxStates, maxNodes}
 use Rattle.session.specs.Layout.{part}
 use Rattle.promises.specs.Rules.{given}
 use Rattle.frames.specs.Machine.{
   Memory,
-  countsSize,
-  wordsSize,
   linksIn,
   valuesIn,
   samplesIn,
   statesRead,
   nodesRead,
+  Ready,
   readSoFar,
   stateKept,
   nodeKept,
@@ -43,13 +42,6 @@ module _ (xs : List ℕ) (at n a : ℕ) where
   part-ahead i l = ap (take n) (drop-set-lt at xs i a l)
 
 -- ---- long enough, and as many as there may be
-
-pub record Ready (m : Memory) : Type 0 where
-  pub counts : countsSize ≤ length (m .counts)
-  pub words : wordsSize ≤ length (m .words)
-  pub session : fixedSize ≤ length (m .session)
-  pub few-states : statesRead m ≤ maxStates
-  pub few-nodes : nodesRead m ≤ maxNodes
 
 module _ (m : Memory) (r : Ready m) where
   abbrev n : ℕ

@@ -9,5 +9,7 @@ pub mod Few
 pub mod Kept
 pub mod Played
 pub mod Programs
+pub mod Walking
+pub mod Inputs
 pub mod Samples
 pub mod Takes

@@ -12,7 +12,7 @@ use lib.Seq.{take-suc, take-all, length-take-le}
 use Rattle.listing.specs.Placed.{Placed}
 use Rattle.listing.proofs.Placing.{placed-start, placed-append, placed-long}
 use Rattle.frames.specs.Digits.{digits}
-use Rattle.frames.specs.Outputs.{complement, accepted, changed, each}
+use Rattle.frames.specs.Outputs.{complement, reportLine, changed, each}
 use Rattle.frames.proofs.Written.{digits-long, pair-long}
 
 module _ {A : Type 0} (f : A → List ℕ) where
@@ -74,9 +74,9 @@ pub states-long : (kind : ℕ) (us : List ℕ) → length (digits 2 kind ++ each
 states-long kind us = length-append (digits 2 kind) (each (digits 2) us) ∙ ap₂ _+_ (digits-long 2 kind) (each-long (digits 2) 2 (digits-long 2) us)
 
 -- a report takes thirteen
-pub accepted-long : (fires : Bool) (trials changes : ℕ) → length (accepted fires trials changes) ≡ 13
-unfolding accepted
-accepted-long fires trials changes =
+pub report-long : (fires : Bool) (trials changes : ℕ) → length (reportLine fires trials changes) ≡ 13
+unfolding reportLine
+report-long fires trials changes =
     let counts = digits 4 trials ++ digits 4 changes in
     let fields = digits 2 (cond fires 1 0) ++ counts in
     length-append (digits 2 128) (fields ++ (10 ∷ []))

@@ -19,7 +19,7 @@ use Rattle.promises.specs.Demands.{Faithful}
 use Rattle.promises.proofs.Verdicts.{accepts-or}
 use Rattle.promises.proofs.Steps.{step-refused, faithful-load}
 use Rattle.promises.proofs.Demands.{outcome-refused}
-use Rattle.promises.proofs.Told.{same-load, load-told, load-list, load-untouched, order-told, order-list, edit-told, edit-list, edit-after}
+use Rattle.promises.proofs.Told.{same-load, load-told, load-list, load-untouched, order-told, order-list, edit-told, edit-list, edit-untouched, edit-after}
 use Rattle.frames.specs.Frames.{Frame, state, node, run, edit, walk, nothing}
 use Rattle.frames.specs.Outputs.{refusal, answered, ordered, walked}
 use Rattle.frames.specs.Machine.{
@@ -28,8 +28,9 @@ use Rattle.frames.specs.Machine.{
   outputSize,
   statesRead,
   nodesRead,
+  Ready,
   readSoFar,
-  memoryRules,
+  printing,
   Prints,
   stateKept,
   nodeKept,
@@ -41,8 +42,8 @@ use Rattle.frames.specs.Machine.{
   After,
 }
 use Rattle.frames.specs.Moments.{Moment, reading, running, reply, broken, printed, next}
-use Rattle.frames.specs.Program.{lent}
-use Rattle.frames.proofs.Kept.{Ready, state-moment, state-read, state-ready, node-moment, node-read, node-ready}
+use Rattle.frames.specs.Program.{Holds}
+use Rattle.frames.proofs.Kept.{state-moment, state-read, state-ready, node-moment, node-read, node-ready}
 
 -- ---- what a reply prints, and the moment after it
 
@@ -57,10 +58,6 @@ module _ (p : Moment) (f : Frame) where
 
 -- ---- the machine holds a moment
 
-abbrev pub Holds : Moment → Memory → Type 0
-Holds (reading x) m = Ready m × (getD (m .counts) 0 0 ≡ 0) × (readSoFar m ≡ x)
-Holds (running b) m = Ready m × (getD (m .counts) 0 0 ≡ 1) × Faithful b (m .session)
-
 -- it does not depend on the change room and the output
 pub holds-same : (q : Moment) (m : Memory) (room : List ℤ) (out : List ℕ) → Holds q m → Holds q (memory (m .counts) (m .words) (m .session) room out)
 unfolding readSoFar
@@ -73,31 +70,34 @@ holds-same q m room out h = by q h
     by (reading x) h = (ready (h .0), h .1, h .2)
     by (running b) h = (ready (h .0), h .1, h .2)
 
--- a line that prints as it should, and leaves the next moment
+-- a line that prints as it should, and leaves the next moment; where it breaks a rule, all else is as it was
 pub record Told (p : Moment) (f : Frame) (m : Memory) (n : ℕ) (m' : Memory) : Type 0 where
   pub many : n ≡ length (printed p f)
   pub out : m' .out ≡ printed p f ++ drop (length (printed p f)) (m .out)
   pub holds : Holds (next p f) m'
+  pub untouched : (broken p f ≡ 0 → ⊥) → m' ≡ printing (refusal (broken p f)) m
 
 -- by the bytes printed, the moment after them, and the memory that is left beside them
 told-by : (p : Moment) (f : Frame) (m : Memory) (n : ℕ) (m' : Memory) (bytes : List ℕ) (q : Moment) (m⁺ : Memory)
-    → (printed p f ≡ bytes) × (next p f ≡ q) → m⁺ .out ≡ m .out → Holds q m⁺ → Prints bytes m⁺ n m' → Told p f m n m'
-told-by p f m n m' bytes q m⁺ says same h w =
+    → (printed p f ≡ bytes) × (next p f ≡ q) → m⁺ .out ≡ m .out → ((broken p f ≡ 0 → ⊥) → m⁺ ≡ m) → Holds q m⁺ → Prints bytes m⁺ n m' → Told p f m n m'
+told-by p f m n m' bytes q m⁺ says same still h w =
     record {
       many = w .many ∙ ap length (sym (says .0));
       out = rw (says .0) (ap (λ (l : Memory). l .out) (w .left) ∙ ap (λ (o : List ℕ). bytes ++ drop (length bytes) o) same);
       holds =
           subst (λ (q' : Moment). Holds q' m') (sym (says .1))
           (subst (Holds q) (sym (w .left)) (holds-same q m⁺ (m⁺ .room) (bytes ++ drop (length bytes) (m⁺ .out)) h));
+      untouched = λ bad. w .left ∙ ap₂ printing (sym (says .0) ∙ printed-refused p f (broken p f) refl bad .0) (still bad);
     }
 
 told-refused : (p : Moment) (f : Frame) (m : Memory) (n : ℕ) (m' : Memory) (k : ℕ) → broken p f ≡ k → (k ≡ 0 → ⊥) → Holds p m
     → Prints (refusal k) m n m' → Told p f m n m'
-told-refused p f m n m' k e some h w = told-by p f m n m' (refusal k) p m (printed-refused p f k e some) refl h w
+told-refused p f m n m' k e some h w = told-by p f m n m' (refusal k) p m (printed-refused p f k e some) refl (λ bad. refl) h w
 
 told-lines : (p : Moment) (f : Frame) (m : Memory) (n : ℕ) (m' m⁺ : Memory) → broken p f ≡ 0 → m⁺ .out ≡ m .out → Holds (reply p f .moment) m⁺
     → Prints (reply p f .lines) m⁺ n m' → Told p f m n m'
-told-lines p f m n m' m⁺ e same h w = told-by p f m n m' (reply p f .lines) (reply p f .moment) m⁺ (printed-lines p f e) same h w
+told-lines p f m n m' m⁺ e same h w =
+    told-by p f m n m' (reply p f .lines) (reply p f .moment) m⁺ (printed-lines p f e) same (λ bad. absurd (bad e)) h w
 
 -- ---- states and nodes
 
@@ -186,6 +186,12 @@ module _ (m : Memory) (r : Ready m) (moment : getD (m .counts) 0 0 ≡ 0) (wide 
         f,
       )
 
+  -- a refused run leaves all as it was
+  still : (verdict (loadRules fixedSize maxChanges (readSoFar m)) ≡ 0 → ⊥) → left (told (w .answer)) ≡ m
+  still bad =
+      let u = w .loads .refuses (λ z. bad (sym (same-load given (m .session) (m .room) (r .session) wide) ∙ z)) in
+      ap left (u .answer) ∙ ap₂ (λ (s : List ℕ) (c : List ℤ). memory (m .counts) (m .words) s c (m .out)) (u .session) (u .room)
+
   turned-back : (k : ℕ) → (verdict (loadRules fixedSize maxChanges (readSoFar m)) ≡ 0 → ⊥) → Holds (reading (readSoFar m)) (left (refused k))
   unfolding readSoFar
   turned-back k bad =
@@ -207,10 +213,12 @@ module _ (m : Memory) (r : Ready m) (moment : getD (m .counts) 0 0 ≡ 0) (wide 
       ⊎-elim
       (λ ok.
       told-by (reading given) run m n m' _ (running (begun given)) (left (told (w .answer))) (run-lines, printed-lines (reading given) run ok .1) refl
+      (λ bad. absurd (bad ok))
       (subst (λ (o : Outcome Summary). Holds (running (begun given)) (left o)) (sym (says ∙ ap (λ (k : ℕ). outcome k (loadSummary given)) ok)) (loaded ok))
       (w .prints))
       (λ bad.
       told-by (reading given) run m n m' _ (reading given) (left (told (w .answer))) (run-lines, printed-refused (reading given) run v refl bad .1) refl
+      still
       (subst (λ (o : Outcome Summary). Holds (reading given) (left o)) (sym (says ∙ outcome-refused v (loadSummary given) bad)) (turned-back v bad))
       (w .prints))
       (accepts-or v)
@@ -235,9 +243,13 @@ module _ (b : Model) (m : Memory) (r : Ready m) (moment : getD (m .counts) 0 0 �
       (edit-list b (m .session) f k u v (m .room) (w .answer) (m' .session) (m' .room) wide (w .edits))
 
   edited-told : (k : Kind) (u v : ℕ) → maxChanges ≤ length (m .room) → Changed k u v m n m' → Told (running b) (edit k u v) m n m'
+  unfolding broken
   edited-told k u v wide w =
       let f' = edit-after b (m .session) f k u v (m .room) (w .answer) (m' .session) (m' .room) wide (w .edits) in
-      told-by (running b) (edit k u v) m n m' _ (running (step b (editing k u v))) _ (edit-lines k u v wide w, next-edit k u v) refl (
+      told-by (running b) (edit k u v) m n m' _ (running (step b (editing k u v))) _ (edit-lines k u v wide w, next-edit k u v) refl
+      (λ bad.
+      let still = edit-untouched b (m .session) f k u v (m .room) (w .answer) (m' .session) (m' .room) wide (w .edits) bad in
+      ap₂ (λ (s : List ℕ) (c : List ℤ). memory (m .counts) (m .words) s c (m .out)) (still .0) (still .1)) (
         record { counts = r .counts; words = r .words; session = f' .long; few-states = r .few-states; few-nodes = r .few-nodes },
         moment,
         f',

@@ -4,10 +4,9 @@ use native.Mathlib.Omega.{arith}
 use mathlib.Core.Path.{_≡_, refl, sym, _∙_, ap, ap₂, subst}
 use mathlib.Core.Logic.{_⊎_, ⊎-elim}
 use mathlib.Core.Bool.{false}
-use mathlib.Core.List.{List, [], _∷_, _++_, map, flatten}
+use mathlib.Core.List.{List, [], _∷_, _++_}
 use lib.ListN.{length, getD, take, drop}
 use lib.Seq.{take-append-seam}
-use borrow.Author.Tests.{le-ltb}
 use Rattle.session.specs.Limits.{maxChanges}
 use Rattle.promises.specs.Answers.{Outcome, accepted}
 use Rattle.promises.specs.Rules.{insertion, deletion, Given, Rule, rule, verdict}
@@ -18,57 +17,56 @@ use Rattle.promises.proofs.Verdicts.{Lacks, verdict-skip, verdict-lacks}
 use Rattle.promises.proofs.Demands.{demand2, demand3, kept}
 use Rattle.promises.proofs.Told.{same-load, same-step}
 use Rattle.frames.specs.Frames.{Frame, state, node, run, edit, walk, nothing, frameOf}
-use Rattle.frames.specs.Lines as lines
 use Rattle.frames.specs.Outputs.{each}
-use Rattle.frames.specs.Machine.{Memory, memory, outputSize, readSoFar, memoryRules, toldTaken, Before, After, Stepped}
-use Rattle.frames.specs.Moments.{Moment, reading, running, start, broken, printed, next, output, program}
+use Rattle.frames.specs.Machine.{Memory, outputSize, Ready, readSoFar, memoryRules, toldTaken, Prints, Before, After, Stepped}
+use Rattle.frames.specs.Moments.{Moment, reading, running, start, broken, printed, next, output}
 use Rattle.frames.specs.Program.{
   Line,
   lent,
-  Played,
+  LineByLine,
   ended,
   taken,
-  given,
+  filled,
   printedBy,
-  bytesOf,
-  Accepted,
   Fresh,
+  Holds,
+  Demand1,
   Demanded,
-  Throughout,
   Whole,
 }
-use Rattle.frames.proofs.Fronts.{gathering-frames}
-use Rattle.frames.proofs.Kept.{Ready}
-use Rattle.frames.proofs.Played.{Holds, holds-same, Told, before-told, after-told}
+use Rattle.frames.proofs.Takes.{passed-rules}
+use Rattle.frames.proofs.Played.{printed-refused, printed-lines, holds-same, Told, before-told, after-told}
 
 -- ---- a line: its bytes, and the demands
 
 -- a memory that holds a moment breaks no rule of its own, in a room and an output that are long enough
 fits : (m : Memory) → Ready m → getD (m .counts) 0 0 ≤ 1 → maxChanges ≤ length (m .room) → outputSize ≤ length (m .out)
     → verdict (memoryRules m) ≡ 0
-unfolding verdict
 fits m r moment wide long =
-    rw (
-      le-ltb (length (m .counts)) 19 (r .counts),
-      le-ltb (length (m .words)) 544 (r .words),
-      le-ltb (length (m .session)) 3123 (r .session),
-      le-ltb (length (m .room)) 8192 wide,
-      le-ltb (length (m .out)) 90125 long,
-      le-ltb 1 (getD (m .counts) 0 0) moment,
-      le-ltb 16 (getD (m .counts) 1 0) (r .few-states),
-      le-ltb 512 (getD (m .counts) 2 0) (r .few-nodes),
-    )
+    passed-rules m record { ready = r; counted = (moment, r .few-states, r .few-nodes); room = wide; out = long }
 
-module _ (m : Memory) (wide : maxChanges ≤ length (m .room)) (n : ℕ) (m' : Memory) where
-  before-demanded : Ready m → (f : Frame) → Before f m n m' → Demanded (reading (readSoFar m)) f m'
+-- the bytes printed are the front of the output
+printed-front : (l : Line) (n : ℕ) (bytes : List ℕ) (m : Memory) → toldTaken (l .answer) ≡ accepted n → Prints bytes m n (l .left) → printedBy l ≡ bytes
+printed-front l n bytes m says p =
+    ap (λ (o : Outcome ℕ). filled o (l .left .out)) says
+    ∙ ap₂ take (p .many) (ap (λ (x : Memory). x .out) (p .left))
+    ∙ take-append-seam bytes (drop (length bytes) (m .out))
+
+-- the line l, taken in the memory m
+module _ (m : Memory) (l : Line) (wide : maxChanges ≤ length (l .room)) (n : ℕ) (says : toldTaken (l .answer) ≡ accepted n) where
+  abbrev mine : Memory
+  mine = lent m (l .room) (l .out)
+
+  before-demanded : Ready m → (f : Frame) → Before f (lent m (l .room) (l .out)) n (l .left) → Demanded (reading (readSoFar (lent m (l .room) (l .out)))) f l
   unfolding broken
   before-demanded r run w = λ ok.
-      let x = readSoFar m in
-      let fine = same-load x (m .session) (m .room) (r .session) wide ∙ ok in
+      let x = readSoFar mine in
+      let fine = same-load x (m .session) (l .room) (r .session) wide ∙ ok in
       record {
         answer = w .answer;
-        demand2 = demand2 x (m .session) (m .room) (w .answer) (m' .session) (m' .room) (w .loads) fine;
-        demand3 = demand3 x (m .session) (m .room) (w .answer) (m' .session) (m' .room) (w .loads) fine;
+        prints = printed-front l n _ _ says (w .prints);
+        demand2 = demand2 x (m .session) (l .room) (w .answer) (l .left .session) (l .left .room) (w .loads) fine;
+        demand3 = demand3 x (m .session) (l .room) (w .answer) (l .left .session) (l .left .room) (w .loads) fine;
       }
   before-demanded r (state mask value links) w = tt
   before-demanded r (node sample) w = tt
@@ -76,15 +74,17 @@ module _ (m : Memory) (wide : maxChanges ≤ length (m .room)) (n : ℕ) (m' : M
   before-demanded r walk w = tt
   before-demanded r nothing w = tt
 
-  after-demanded : (b : Model) → Faithful b (m .session) → (f : Frame) → After f m n m' → Demanded (running b) f m'
+  after-demanded : (b : Model) → Faithful b (m .session) → (f : Frame) → After f (lent m (l .room) (l .out)) n (l .left) → Demanded (running b) f l
   after-demanded b f (edit k u v) w =
       let c : Call =
-      record { kind = k; start = u; end = v; room = m .room; answer = w .answer; session = m' .session; changes = m' .room } in
+      record { kind = k; start = u; end = v; room = l .room; answer = w .answer; session = l .left .session; changes = l .left .room } in
       record {
         call = c;
-        asked = (refl, refl, refl);
+        asked = (refl, refl, refl, refl);
         left = (refl, refl);
-        kept = subst (λ (b' : Model). demands.Kept b b' c) (same-step b (m .session) f k u v (m .room) (w .answer) (m' .session) (m' .room) wide (w .edits))
+        prints = printed-front l n _ _ says (w .prints);
+        kept = subst (λ (b' : Model). demands.Kept b b' c)
+            (same-step b (m .session) f k u v (l .room) (w .answer) (l .left .session) (l .left .room) wide (w .edits))
             (kept b (m .session) f c (w .edits) .0);
       }
   after-demanded b f walk w = tt
@@ -98,48 +98,64 @@ record Comes (p : Moment) (m : Memory) (l : Line) : Type 1 where
   pub count : ℕ
   pub says : toldTaken (l .answer) ≡ accepted count
   pub told : Told p (frameOf (l .bytes)) (lent m (l .room) (l .out)) count (l .left)
-  pub demanded : Demanded p (frameOf (l .bytes)) (l .left)
+  pub demanded : Demanded p (frameOf (l .bytes)) l
 
-comes : (p : Moment) (m : Memory) (l : Line) → Holds p (lent m (l .room) (l .out)) → maxChanges ≤ length (l .room) → outputSize ≤ length (l .out)
+comes : (p : Moment) (m : Memory) (l : Line) → Holds p m → maxChanges ≤ length (l .room) → outputSize ≤ length (l .out)
     → Stepped (lent m (l .room) (l .out)) (l .bytes) (l .answer) (l .left) → Comes p m l
 comes (reading x) m l h wide long s =
     let mine = lent m (l .room) (l .out) in
-    let w = s .before (fits mine (h .0) (omega (arith, h .1)) wide long) (h .1) in
-    subst (λ (y : Given). Comes (reading y) m l) (h .2) record {
+    let h' = holds-same (reading x) m (l .room) (l .out) h in
+    let w = s .answers (fits mine (h' .0) (omega (arith, h .1)) wide long) in
+    let before = w .2 .before (h .1) in
+    subst (λ (y : Given). Comes (reading y) m l) (h' .2) record {
       count = w .0;
       says = w .1;
-      told = before-told mine (h .0) (h .1) wide (frameOf (l .bytes)) (w .0) (l .left) (w .2);
-      demanded = before-demanded mine wide (w .0) (l .left) (h .0) (frameOf (l .bytes)) (w .2);
+      told = before-told mine (h' .0) (h .1) wide (frameOf (l .bytes)) (w .0) (l .left) before;
+      demanded = before-demanded m l wide (w .0) (w .1) (h .0) (frameOf (l .bytes)) before;
     }
 comes (running b) m l h wide long s =
     let mine = lent m (l .room) (l .out) in
-    let w = s .after (fits mine (h .0) (omega (arith, h .1)) wide long) (h .1) in
+    let h' = holds-same (running b) m (l .room) (l .out) h in
+    let w = s .answers (fits mine (h' .0) (omega (arith, h .1)) wide long) in
+    let after = w .2 .after (h .1) in
     record {
       count = w .0;
       says = w .1;
-      told = after-told b mine (h .0) (h .1) (h .2) wide (frameOf (l .bytes)) (w .0) (l .left) (w .2);
-      demanded = after-demanded mine wide (w .0) (l .left) b (h .2) (frameOf (l .bytes)) (w .2);
+      told = after-told b mine (h' .0) (h .1) (h .2) wide (frameOf (l .bytes)) (w .0) (l .left) after;
+      demanded = after-demanded m l wide (w .0) (w .1) b (h .2) (frameOf (l .bytes)) after;
     }
 
-line-prints : (p : Moment) (m : Memory) (l : Line) → Comes p m l → printedBy l ≡ printed p (frameOf (l .bytes))
-line-prints p m l c =
-    let bytes = printed p (frameOf (l .bytes)) in
-    ap (λ (o : Outcome ℕ). given o (l .left .out)) (c .says)
-    ∙ ap₂ take (c .told .many) (c .told .out)
-    ∙ take-append-seam bytes (drop (length bytes) (l .out))
+module _ (p : Moment) (m : Memory) (l : Line) (c : Comes p m l) where
+  line-prints : printedBy l ≡ printed p (frameOf (l .bytes))
+  line-prints =
+      let bytes = printed p (frameOf (l .bytes)) in
+      ap (λ (o : Outcome ℕ). filled o (l .left .out)) (c .says)
+      ∙ ap₂ take (c .told .many) (c .told .out)
+      ∙ take-append-seam bytes (drop (length bytes) (l .out))
+
+  line-demand1 : Demand1 p m l
+  line-demand1 =
+      let f = frameOf (l .bytes) in
+      record {
+        carried = λ ok. (
+          line-prints ∙ printed-lines p f ok .0,
+          subst (λ (q : Moment). Holds q (l .left)) (printed-lines p f ok .1) (c .told .holds),
+        );
+        refused = λ bad. (line-prints ∙ printed-refused p f (broken p f) refl bad .0, c .told .untouched bad);
+      }
 
 -- ---- all lines
 
-whole-from : (p : Moment) (m : Memory) (ls : List Line) → Holds p m → Played m ls → Whole p ls
+whole-from : (p : Moment) (m : Memory) (ls : List Line) → Holds p m → LineByLine m ls → Whole p m ls
 unfolding output each
 whole-from p m [] h ended = record { prints = refl; taken = tt; demands = tt }
 whole-from p m (l ∷ ls) h (taken wide long s more) =
-    let c = comes p m l (holds-same p m (l .room) (l .out) h) wide long s in
+    let c = comes p m l h wide long s in
     let rest = whole-from (next p (frameOf (l .bytes))) (l .left) ls (c .told .holds) more in
     record {
       prints = ap₂ _++_ (line-prints p m l c) (rest .prints);
       taken = ((c .count, c .says), rest .taken);
-      demands = (c .demanded, rest .demands);
+      demands = (line-demand1 p m l c, c .demanded, rest .demands);
     }
 
 fresh-holds : (m : Memory) → Fresh m → Holds start m
@@ -157,13 +173,8 @@ fresh-holds m f = (
 )
 
 -- from the start, every byte and the demands
-pub whole : (m : Memory) (ls : List Line) → Fresh m → Played m ls → Whole start ls
+pub whole : (m : Memory) (ls : List Line) → Fresh m → LineByLine m ls → Whole start m ls
 whole m ls f played = whole-from start m ls (fresh-holds m f) played
-
--- an input in blocks, gathered into lines: the program prints what 01 says of the whole input
-pub prints-program : {n : ℕ} {blocks : List (List ℕ)} (m : Memory) (ls : List Line) → lines.kept ≤ n → lines.Gathering n [] blocks (bytesOf ls)
-    → Fresh m → Played m ls → each printedBy ls ≡ program (flatten blocks)
-prints-program m ls enough g f played = whole m ls f played .prints ∙ ap (output start) (gathering-frames enough g)
 
 -- ---- rules 3 and 10 are never met
 

@@ -9,7 +9,7 @@ use Rattle.bits.specs.Word.{word}
 use Rattle.frames.specs.Digits.{digit, hexadecimal, numberFrom, letter, place, digits}
 use Rattle.frames.specs.Frames.{Frame, state, node, run, edit, walk, nothing, spoken, frameOf}
 use Rattle.frames.specs.Lines.{lines}
-use Rattle.frames.specs.Outputs.{refusal, accepted}
+use Rattle.frames.specs.Outputs.{refusal, reportLine}
 
 -- 01FFFF00010002, 020001, 03, 0400000001, 0500010000, 06
 pub state-line : List ℕ
@@ -42,8 +42,8 @@ unfolding frameOf spoken hexadecimal digit numberFrom state-line node-line inser
 read = refl
 
 -- 800100020002 and 8F0C, each with its line feed
-pub wrote : (accepted true 2 2 ≡ 56 ∷ 48 ∷ 48 ∷ 49 ∷ 48 ∷ 48 ∷ 48 ∷ 50 ∷ 48 ∷ 48 ∷ 48 ∷ 50 ∷ 10 ∷ []) × (refusal 12 ≡ 56 ∷ 70 ∷ 48 ∷ 67 ∷ 10 ∷ [])
-unfolding accepted refusal digits letter place word
+pub wrote : (reportLine true 2 2 ≡ 56 ∷ 48 ∷ 48 ∷ 49 ∷ 48 ∷ 48 ∷ 48 ∷ 50 ∷ 48 ∷ 48 ∷ 48 ∷ 50 ∷ 10 ∷ []) × (refusal 12 ≡ 56 ∷ 70 ∷ 48 ∷ 67 ∷ 10 ∷ [])
+unfolding reportLine refusal digits letter place word
 wrote = (refl, refl)
 
 -- a line feed at the end begins no line; an empty line is one; input may end without a line feed

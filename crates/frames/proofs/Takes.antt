@@ -3,26 +3,27 @@ use Rattle.session.proofs.Tables.{part-from}
 use Prim.Native.Nat.{ℕ, _+_, _-_, _≤_}
 use native.Mathlib.Nat.{zero-add, sub-zero}
 use native.Mathlib.Omega.{arith}
-use mathlib.Core.Path.{_≡_, refl, sym, _∙_, ap}
+use mathlib.Core.Path.{_≡_, refl, sym, _∙_, ap, subst}
 use mathlib.Core.Logic.{_⊎_, ⊎-elim}
 use mathlib.Core.Bool.{Bool, true, false, _||_, cond}
 use mathlib.Core.List.{List, [], _∷_, _++_}
 use lib.Dec.{ltb, leb}
 use lib.IntN.{ℤ}
-use lib.ListN.{length, getD, take, drop}
-use borrow.Author.Tests.{ltb-false}
+use lib.ListN.{length, getD, set, take, drop}
+use lib.Seq.{getD-set-same, getD-set-other}
+use borrow.Author.Tests.{le-ltb, ltb-false, leb-false}
 use denote.Enum.Declared
 use Rattle.simulation.proofs.Sets.{or-false-l, or-false-r}
 use Rattle.session.specs.Limits.{fixedSize, maxStates, maxNodes, maxChanges}
 use Rattle.listing.specs.Placed.{Placed}
-use Rattle.promises.specs.Answers.{refused}
+use Rattle.promises.specs.Answers.{Outcome, Summary, accepted, refused, told}
 use Rattle.promises.specs.Rules.{rule, verdict, given}
-use Rattle.promises.proofs.Verdicts.{row-passed, row-broken, rows-end}
+use Rattle.promises.proofs.Verdicts.{accepts-or, verdict-pass, row-passed, row-broken, rows-end}
 use Rattle.frames.specs.declared.Frame as declared
 use Rattle.frames.specs.declared.Frame.the-variants as F
 use Rattle.frames.specs.declared.Taken.{Taken}
 use Rattle.frames.specs.declared.Taken.the-variants as T
-use Rattle.frames.specs.Frames.{said, frameOf}
+use Rattle.frames.specs.Frames.{Frame, state, node, run, edit, walk, nothing, said, frameOf}
 use Rattle.frames.specs.Outputs.{refusal}
 use Rattle.frames.specs.Machine.{
   Memory,
@@ -32,7 +33,9 @@ use Rattle.frames.specs.Machine.{
   outputSize,
   statesRead,
   nodesRead,
+  Ready,
   readSoFar,
+  moved,
   tooSmall,
   miscounted,
   memoryRules,
@@ -40,8 +43,10 @@ use Rattle.frames.specs.Machine.{
   Prints,
   Before,
   After,
+  Answers,
   Stepped,
 }
+use Rattle.frames.proofs.Kept.{state-moment, state-ready, node-moment, node-ready}
 use Rattle.frames.proofs.Frame as F'
 
 -- bytes placed at the front of the output are printed
@@ -90,71 +95,164 @@ module _ (m m' : Memory) (n : ℕ) (p : Prints (refusal 2) m n m') where
   late F.Walk h = absurd (omega (arith, key h (omega arith) (omega arith)))
   late F.Nothing h = absurd (omega (arith, key h (omega arith) (omega arith)))
 
+-- ---- a line at its moment
+
+module _ (m : Memory) (line : List ℕ) (n : ℕ) (m' : Memory) where
+  pub answers-before : getD (m .counts) 0 0 ≡ 0 → Before (frameOf line) m n m' → Answers m line n m'
+  answers-before moment w = record { before = λ e. w; after = λ e. absurd (omega (arith, e, moment)) }
+
+  pub answers-after : (getD (m .counts) 0 0 ≡ 0 → ⊥) → After (frameOf line) m n m' → Answers m line n m'
+  answers-after moment w = record { before = λ e. absurd (moment e); after = λ e. w }
+
+-- ---- a memory that breaks no rule of its own
+
+-- the counts are some that lines leave
+abbrev pub Counted : List ℕ → Type 0
+Counted counts = (getD counts 0 0 ≤ 1) × (getD counts 1 0 ≤ maxStates) × (getD counts 2 0 ≤ maxNodes)
+
+-- long enough, room and output too
+pub record Passed (m : Memory) : Type 0 where
+  pub ready : Ready m
+  pub counted : Counted (m .counts)
+  pub room : maxChanges ≤ length (m .room)
+  pub out : outputSize ≤ length (m .out)
+
+pub long-enough : (m : Memory) → tooSmall m ≡ false
+    → (countsSize ≤ length (m .counts)) × (wordsSize ≤ length (m .words)) × (fixedSize ≤ length (m .session)) × (maxChanges ≤ length (m .room))
+    × (outputSize ≤ length (m .out))
+long-enough m z =
+    let first = ltb (length (m .counts)) countsSize in
+    let second = ltb (length (m .words)) wordsSize in
+    let third = ltb (length (m .session)) fixedSize in
+    let fourth = ltb (length (m .room)) maxChanges in
+    let fifth = ltb (length (m .out)) outputSize in
+    let front = or-false-l (first || second) (third || (fourth || fifth)) z in
+    let back = or-false-r (first || second) (third || (fourth || fifth)) z in
+    let last = or-false-r third (fourth || fifth) back in (
+      ltb-false (length (m .counts)) countsSize (or-false-l first second front),
+      ltb-false (length (m .words)) wordsSize (or-false-r first second front),
+      ltb-false (length (m .session)) fixedSize (or-false-l third (fourth || fifth) back),
+      ltb-false (length (m .room)) maxChanges (or-false-l fourth fifth last),
+      ltb-false (length (m .out)) outputSize (or-false-r fourth fifth last),
+    )
+
+counts-right : (m : Memory) → miscounted m ≡ false → Counted (m .counts)
+counts-right m z =
+    let first = ltb 1 (getD (m .counts) 0 0) in
+    let second = ltb maxStates (statesRead m) in
+    let third = ltb maxNodes (nodesRead m) in
+    let back = or-false-r first (second || third) z in (
+      ltb-false 1 (getD (m .counts) 0 0) (or-false-l first (second || third) z),
+      ltb-false maxStates (statesRead m) (or-false-l second third back),
+      ltb-false maxNodes (nodesRead m) (or-false-r second third back),
+    )
+
+pub rules-passed : (m : Memory) → verdict (memoryRules m) ≡ 0 → Passed m
+rules-passed m ok =
+    let first = verdict-pass 3 (tooSmall m) (rule 10 (miscounted m) ∷ []) (omega arith) ok in
+    let long = long-enough m (first .0) in
+    let right = counts-right m (verdict-pass 10 (miscounted m) [] (omega arith) (first .1) .0) in
+    record {
+      ready = record { counts = long .0; words = long .1; session = long .2; few-states = right .1; few-nodes = right .2 };
+      counted = right;
+      room = long .3;
+      out = long .4;
+    }
+
+pub passed-rules : (m : Memory) → Passed m → verdict (memoryRules m) ≡ 0
+unfolding verdict
+passed-rules m p =
+    rw (
+      le-ltb (length (m .counts)) 19 (p .ready .counts),
+      le-ltb (length (m .words)) 544 (p .ready .words),
+      le-ltb (length (m .session)) 3123 (p .ready .session),
+      le-ltb (length (m .room)) 8192 (p .room),
+      le-ltb (length (m .out)) 90125 (p .out),
+      le-ltb 1 (getD (m .counts) 0 0) (p .counted .0),
+      le-ltb 16 (getD (m .counts) 1 0) (p .counted .1),
+      le-ltb 512 (getD (m .counts) 2 0) (p .counted .2),
+    )
+
+-- ---- a line leaves such counts again
+
+module _ (m m' : Memory) (n : ℕ) (r : Ready m) (c : Counted (m .counts)) where
+  same-counts : (cs : List ℕ) → m' .counts ≡ cs → Counted cs → Counted (m' .counts)
+  same-counts cs e h = subst Counted (sym e) h
+
+  moved-counted : (o : Outcome Summary) → Counted (moved o (m .counts))
+  moved-counted (accepted s) =
+      let other : (i : ℕ) → (i ≡ 0 → ⊥) → getD (set (m .counts) 0 1) i 0 ≡ getD (m .counts) i 0 = λ i ne. getD-set-other (m .counts) 0 i 1 0 ne in (
+        omega (arith, getD-set-same (m .counts) 0 1 0 (omega (arith, r .counts))),
+        omega (arith, c .1, other 1 (λ e. absurd (omega (arith, e)))),
+        omega (arith, c .2, other 2 (λ e. absurd (omega (arith, e)))),
+      )
+  moved-counted (refused k) = c
+
+  before-counted : (f : Frame) → Before f m n m' → Counted (m' .counts)
+  before-counted (state mask value links) w = by (leb maxStates (statesRead m)) refl
+    where
+      by : (full : Bool) → leb maxStates (statesRead m) ≡ full → Counted (m' .counts)
+      by true e = let p = rw e at w in same-counts _ (ap (λ (x : Memory). x .counts) (p .left)) c
+      by false e =
+          let p = rw e at w in
+          let room = leb-false maxStates (statesRead m) e in
+          let more = state-ready m r mask value links room in
+          same-counts _ (ap (λ (x : Memory). x .counts) (p .left))
+          (omega (arith, c .0, state-moment m r mask value links room), more .few-states, more .few-nodes)
+  before-counted (node sample) w = by (leb maxNodes (nodesRead m)) refl
+    where
+      by : (full : Bool) → leb maxNodes (nodesRead m) ≡ full → Counted (m' .counts)
+      by true e = let p = rw e at w in same-counts _ (ap (λ (x : Memory). x .counts) (p .left)) c
+      by false e =
+          let p = rw e at w in
+          let room = leb-false maxNodes (nodesRead m) e in
+          let more = node-ready m r sample room in
+          same-counts _ (ap (λ (x : Memory). x .counts) (p .left))
+          (omega (arith, c .0, node-moment m r sample room), more .few-states, more .few-nodes)
+  before-counted run w = same-counts _ (ap (λ (x : Memory). x .counts) (w .prints .left)) (moved-counted (told (w .answer)))
+  before-counted (edit k a b) w = same-counts _ (ap (λ (x : Memory). x .counts) (w .left)) c
+  before-counted walk w = same-counts _ (ap (λ (x : Memory). x .counts) (w .left)) c
+  before-counted nothing w = same-counts _ (ap (λ (x : Memory). x .counts) (w .left)) c
+
+  after-counted : (f : Frame) → After f m n m' → Counted (m' .counts)
+  after-counted (edit k a b) w = same-counts _ (ap (λ (x : Memory). x .counts) (w .prints .left)) c
+  after-counted walk w = same-counts _ (ap (λ (x : Memory). x .counts) (w .prints .left)) c
+  after-counted (state mask value links) w = same-counts _ (ap (λ (x : Memory). x .counts) (w .left)) c
+  after-counted (node sample) w = same-counts _ (ap (λ (x : Memory). x .counts) (w .left)) c
+  after-counted run w = same-counts _ (ap (λ (x : Memory). x .counts) (w .left)) c
+  after-counted nothing w = same-counts _ (ap (λ (x : Memory). x .counts) (w .left)) c
+
+  pub answers-counted : (line : List ℕ) → Answers m line n m' → Counted (m' .counts)
+  answers-counted line a =
+      ⊎-elim
+      (λ z. before-counted (frameOf line) (a .before z))
+      (λ z. after-counted (frameOf line) (a .after (omega (arith, z, c .0))))
+      (accepts-or (getD (m .counts) 0 0))
+
 -- ---- the whole promise, return by return
 
 module _ (m : Memory) (line : List ℕ) where
   refused-by : (k : ℕ) → (k ≡ 0 → ⊥) → k ≡ verdict (memoryRules m) → Stepped m line (T.Refused k) m
   refused-by k some e = record {
     refuses = λ bad. (ap refused e, refl);
-    before = λ z moment. absurd (some (e ∙ z));
-    after = λ z moment. absurd (some (e ∙ z));
+    answers = λ z. absurd (some (e ∙ z));
   }
 
   module _ (a : Bool) (a-is : a ≡ tooSmall m) where
     pub taken-short : a ≡ true → Stepped m line (T.Refused 3) m
     taken-short h = refused-by 3 (λ z. absurd (omega (arith, z))) (row-broken 3 (tooSmall m) a (rule 10 (miscounted m) ∷ []) a-is h)
 
-    module _ (long : a ≡ false) where
-      -- lengths, where the memory is long enough
-      pub long-enough : (countsSize ≤ length (m .counts)) × (wordsSize ≤ length (m .words)) × (outputSize ≤ length (m .out))
-      long-enough =
-          let first = ltb (length (m .counts)) countsSize in
-          let second = ltb (length (m .words)) wordsSize in
-          let third = ltb (length (m .session)) fixedSize in
-          let fourth = ltb (length (m .room)) maxChanges in
-          let fifth = ltb (length (m .out)) outputSize in
-          let z = sym a-is ∙ long in
-          let front = or-false-l (first || second) (third || (fourth || fifth)) z in
-          let back = or-false-r third (fourth || fifth) (or-false-r (first || second) (third || (fourth || fifth)) z) in (
-            ltb-false (length (m .counts)) countsSize (or-false-l first second front),
-            ltb-false (length (m .words)) wordsSize (or-false-r first second front),
-            ltb-false (length (m .out)) outputSize (or-false-r fourth fifth back),
-          )
+    module _ (long : a ≡ false) (b : Bool) (b-is : b ≡ miscounted m) where
+      pub taken-wrong : b ≡ true → Stepped m line (T.Refused 10) m
+      taken-wrong h =
+          refused-by 10 (λ z. absurd (omega (arith, z)))
+          (row-passed 3 (tooSmall m) a (rule 10 (miscounted m) ∷ []) a-is 10 long (row-broken 10 (miscounted m) b [] b-is h))
 
-      module _ (b : Bool) (b-is : b ≡ miscounted m) where
-        pub taken-wrong : b ≡ true → Stepped m line (T.Refused 10) m
-        taken-wrong h =
-            refused-by 10 (λ z. absurd (omega (arith, z)))
-            (row-passed 3 (tooSmall m) a (rule 10 (miscounted m) ∷ []) a-is 10 long (row-broken 10 (miscounted m) b [] b-is h))
+      pub unbroken : b ≡ false → verdict (memoryRules m) ≡ 0
+      unbroken right =
+          sym
+          (row-passed 3 (tooSmall m) a (rule 10 (miscounted m) ∷ []) a-is 0 long
+          (row-passed 10 (miscounted m) b [] b-is 0 right rows-end))
 
-        module _ (right : b ≡ false) where
-          pub counts-right : (getD (m .counts) 0 0 ≤ 1) × (statesRead m ≤ maxStates) × (nodesRead m ≤ maxNodes)
-          counts-right =
-              let first = ltb 1 (getD (m .counts) 0 0) in
-              let second = ltb maxStates (statesRead m) in
-              let third = ltb maxNodes (nodesRead m) in
-              let z = sym b-is ∙ right in
-              let back = or-false-r first (second || third) z in (
-                ltb-false 1 (getD (m .counts) 0 0) (or-false-l first (second || third) z),
-                ltb-false maxStates (statesRead m) (or-false-l second third back),
-                ltb-false maxNodes (nodesRead m) (or-false-r second third back),
-              )
-
-          unbroken : 0 ≡ verdict (memoryRules m)
-          unbroken =
-              row-passed 3 (tooSmall m) a (rule 10 (miscounted m) ∷ []) a-is 0 long
-              (row-passed 10 (miscounted m) b [] b-is 0 right rows-end)
-
-          pub taken-before : (n : ℕ) (m' : Memory) → getD (m .counts) 0 0 ≡ 0 → Before (frameOf line) m n m' → Stepped m line (T.Written n) m'
-          taken-before n m' moment w = record {
-            refuses = λ bad. absurd (bad (sym unbroken));
-            before = λ z e. (n, refl, w);
-            after = λ z e. absurd (omega (arith, e, moment));
-          }
-
-          pub taken-after : (n : ℕ) (m' : Memory) → (getD (m .counts) 0 0 ≡ 0 → ⊥) → After (frameOf line) m n m' → Stepped m line (T.Written n) m'
-          taken-after n m' moment w = record {
-            refuses = λ bad. absurd (bad (sym unbroken));
-            before = λ z e. absurd (moment e);
-            after = λ z e. (n, refl, w);
-          }
+  pub taken-line : (n : ℕ) (m' : Memory) → verdict (memoryRules m) ≡ 0 → Answers m line n m' → Stepped m line (T.Written n) m'
+  taken-line n m' ok w = record { refuses = λ bad. absurd (bad ok); answers = λ z. (n, refl, w) }

@@ -6,3 +6,4 @@ pub mod Outputs
 pub mod Machine
 pub mod Moments
 pub mod Program
+pub mod Blocks

@@ -1,5 +1,5 @@
 -- What the program's machine promises when it takes one line, whatever the line and the lent memory are.
-use Prim.Native.Nat.{ℕ, _+_, _*_}
+use Prim.Native.Nat.{ℕ, _+_, _*_, _≤_}
 use mathlib.Core.Path.{_≡_}
 use mathlib.Core.Bool.{Bool, true, false, not, _||_, cond}
 use mathlib.Core.List.{List, [], _∷_, _++_}
@@ -55,6 +55,14 @@ statesRead m = getD (m .counts) 1 0
 abbrev pub nodesRead : Memory → ℕ
 nodesRead m = getD (m .counts) 2 0
 
+-- long enough for all that a line can need but its room and its output, and not more read than there may be
+pub record Ready (m : Memory) : Type 0 where
+  pub counts : countsSize ≤ length (m .counts)
+  pub words : wordsSize ≤ length (m .words)
+  pub session : fixedSize ≤ length (m .session)
+  pub few-states : statesRead m ≤ maxStates
+  pub few-nodes : nodesRead m ≤ maxNodes
+
 -- "the states and nodes read so far", as a load without edges
 unfoldable pub readSoFar : Memory → Given
 readSoFar m =
@@ -104,8 +112,8 @@ moved (accepted s) counts = set counts 0 1
 moved (refused n) counts = counts
 
 -- A state or a node is kept, or refused where there are as many as there may be.
-abbrev pub Kept : Bool → ℕ → Memory → Memory → ℕ → Memory → Type 0
-Kept full rule m m⁺ n m' = Prints (cond full (refusal rule) []) (cond full m m⁺) n m'
+abbrev pub KeptOrFull : Bool → ℕ → Memory → Memory → ℕ → Memory → Type 0
+KeptOrFull full rule m m⁺ n m' = Prints (cond full (refusal rule) []) (cond full m m⁺) n m'
 
 -- The run: the load of what was read so far, and its answer.
 pub record Ran (m : Memory) (n : ℕ) (m' : Memory) : Type 0 where
@@ -127,10 +135,10 @@ pub record Walked (m : Memory) (n : ℕ) (m' : Memory) : Type 0 where
   pub orders : Ordered (m .session) order
   pub prints : Prints (ordered (toldOrder (order .answer)) (order .states)) m n m'
 
--- The line by its frame, before an accepted run and after it: rule 1 comes before 2, and 2 before all others.
+-- What a frame comes to, before an accepted run and after it: rule 1 comes before 2, and 2 before those of the states, the nodes and the calls.
 abbrev pub Before : Frame → Memory → ℕ → Memory → Type 0
-Before (state mask value links) m n m' = Kept (leb maxStates (statesRead m)) 4 m (stateKept m mask value links) n m'
-Before (node sample) m n m' = Kept (leb maxNodes (nodesRead m)) 6 m (nodeKept m sample) n m'
+Before (state mask value links) m n m' = KeptOrFull (leb maxStates (statesRead m)) 4 m (stateKept m mask value links) n m'
+Before (node sample) m n m' = KeptOrFull (leb maxNodes (nodesRead m)) 6 m (nodeKept m sample) n m'
 Before run m n m' = Ran m n m'
 Before (edit k a b) m n m' = Prints (refusal 2) m n m'
 Before walk m n m' = Prints (refusal 2) m n m'
@@ -144,10 +152,13 @@ After (node sample) m n m' = Prints (refusal 2) m n m'
 After run m n m' = Prints (refusal 2) m n m'
 After nothing m n m' = Prints (refusal 1) m n m'
 
--- The whole promise: of a memory that breaks a rule of its own nothing is written.
+-- The line by its frame at its moment.
+pub record Answers (m : Memory) (line : List ℕ) (n : ℕ) (m' : Memory) : Type 0 where
+  pub before : getD (m .counts) 0 0 ≡ 0 → Before (frameOf line) m n m'
+  pub after : getD (m .counts) 0 0 ≡ 1 → After (frameOf line) m n m'
+
+-- The whole promise. The memory's own rules come first, whatever the line is: where they are broken there is no place to print in, and nothing
+-- is written.
 pub record Stepped (m : Memory) (line : List ℕ) (r : Taken) (m' : Memory) : Type 0 where
   pub refuses : (verdict (memoryRules m) ≡ 0 → ⊥) → (toldTaken r ≡ refused (verdict (memoryRules m))) × (m' ≡ m)
-  pub before : verdict (memoryRules m) ≡ 0 → getD (m .counts) 0 0 ≡ 0
-      → (n : ℕ) × (toldTaken r ≡ accepted n) × Before (frameOf line) m n m'
-  pub after : verdict (memoryRules m) ≡ 0 → getD (m .counts) 0 0 ≡ 1
-      → (n : ℕ) × (toldTaken r ≡ accepted n) × After (frameOf line) m n m'
+  pub answers : verdict (memoryRules m) ≡ 0 → (n : ℕ) × (toldTaken r ≡ accepted n) × Answers m line n m'

@@ -46,8 +46,8 @@ pub record Reply : Type 0 where
 abbrev pub carries : List Rule → List ℕ → Moment → Reply
 carries rules lines moment = record { rules = rules; lines = lines; moment = moment }
 
-abbrev pub meets : ℕ → Moment → Reply
-meets n moment = carries (rule n true ∷ []) [] moment
+abbrev pub breaks : ℕ → Moment → Reply
+breaks n moment = carries (rule n true ∷ []) [] moment
 
 -- 1: "A line of the program's input is no frame of the kinds below." 2: "A frame comes at the wrong moment: state, node or run after an
 -- accepted run, any other before it." "A 17th state meets 4 and a 513th node meets 6 as its line is read"; "`03` run, a load without edges";
@@ -56,15 +56,15 @@ abbrev pub reply : Moment → Frame → Reply
 reply (reading x) (state mask value links) = carries (rule 4 (leb maxStates (length (x .masks))) ∷ []) [] (reading (withState x mask value links))
 reply (reading x) (node sample) = carries (rule 6 (leb maxNodes (length (x .samples))) ∷ []) [] (reading (withNode x sample))
 reply (reading x) run = carries (loadRules fixedSize maxChanges x) (runLines x) (running (begun x))
-reply (reading x) (edit k a b) = meets 2 (reading x)
-reply (reading x) walk = meets 2 (reading x)
-reply (reading x) nothing = meets 1 (reading x)
-reply (running m) (state mask value links) = meets 2 (running m)
-reply (running m) (node sample) = meets 2 (running m)
-reply (running m) run = meets 2 (running m)
+reply (reading x) (edit k a b) = breaks 2 (reading x)
+reply (reading x) walk = breaks 2 (reading x)
+reply (reading x) nothing = breaks 1 (reading x)
+reply (running m) (state mask value links) = breaks 2 (running m)
+reply (running m) (node sample) = breaks 2 (running m)
+reply (running m) run = breaks 2 (running m)
 reply (running m) (edit k a b) = carries (modelRules m (editing k a b)) (editLines m k a b) (running (step m (editing k a b)))
 reply (running m) walk = carries [] (walked (order (m .trigger))) (running m)
-reply (running m) nothing = meets 1 (running m)
+reply (running m) nothing = breaks 1 (running m)
 
 -- the number of the first rule that a line breaks, and 0 where it breaks none
 unfoldable pub broken : Moment → Frame → ℕ

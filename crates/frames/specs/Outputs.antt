@@ -16,8 +16,8 @@ unfoldable pub refusal : ℕ → List ℕ
 refusal n = line 0x8F (digits 2 n)
 
 -- "`80` accepted (fires 2, `01` or `00`; trial count 4; number of changes 4)"
-unfoldable pub accepted : Bool → ℕ → ℕ → List ℕ
-accepted fires trials changes = line 0x80 (digits 2 (cond fires 1 0) ++ (digits 4 trials ++ digits 4 changes))
+unfoldable pub reportLine : Bool → ℕ → ℕ → List ℕ
+reportLine fires trials changes = line 0x80 (digits 2 (cond fires 1 0) ++ (digits 4 trials ++ digits 4 changes))
 
 -- "then `81` for each change (8 digits, two's complement)"
 unfoldable pub complement : ℤ → ℕ
@@ -38,7 +38,7 @@ walked states = line 0x82 (each (digits 2) states)
 
 -- an answer of the library with the list that it hands back, and an order of states
 abbrev pub answered : A.Outcome A.Summary → List ℤ → List ℕ
-answered (A.accepted s) list = accepted (s .fires) (s .trials) (s .changes) ++ each changed list
+answered (A.accepted s) list = reportLine (s .fires) (s .trials) (s .changes) ++ each changed list
 answered (A.refused n) list = refusal n
 
 abbrev pub ordered : A.Outcome ℕ → List ℕ → List ℕ

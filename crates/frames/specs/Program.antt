@@ -6,15 +6,28 @@ use lib.IntN.{ℤ}
 use lib.ListN.{length, getD, take}
 use Rattle.session.specs.Limits.{maxStates, maxNodes, maxChanges, fixedSize}
 use Rattle.promises.specs.declared.Answer.{Answer}
-use Rattle.promises.specs.Answers.{Outcome, accepted, refused}
+use Rattle.promises.specs.Answers.{Outcome, accepted, refused, told, handedBack}
 use Rattle.promises.specs.Rules.{Given, Kind}
 use Rattle.promises.specs.Model.{Model, step, editing}
-use Rattle.promises.specs.Demands.{Call, Demand2, Demand3, Kept}
+use Rattle.promises.specs.Demands.{Call, Demand2, Demand3, Kept, Faithful}
 use Rattle.frames.specs.declared.Taken.{Taken}
 use Rattle.frames.specs.Frames.{Frame, state, node, run, edit, walk, nothing, frameOf}
-use Rattle.frames.specs.Outputs.{each}
-use Rattle.frames.specs.Machine.{Memory, memory, countsSize, wordsSize, outputSize, statesRead, nodesRead, readSoFar, toldTaken, Stepped}
-use Rattle.frames.specs.Moments.{Moment, reading, running, start, broken, next, output}
+use Rattle.frames.specs.Outputs.{each, refusal, answered}
+use Rattle.frames.specs.Machine.{
+  Memory,
+  memory,
+  countsSize,
+  wordsSize,
+  outputSize,
+  statesRead,
+  nodesRead,
+  Ready,
+  readSoFar,
+  toldTaken,
+  printing,
+  Stepped,
+}
+use Rattle.frames.specs.Moments.{Moment, reading, running, reply, broken, next, output}
 
 -- a line taken, with a change room and an output of its own: what they hold at entry, what was answered, and the memory left
 pub record Line : Type 0 where
@@ -29,18 +42,18 @@ abbrev pub lent : Memory → List ℤ → List ℕ → Memory
 lent m room out = memory (m .counts) (m .words) (m .session) room out
 
 -- each line in a change room and an output that are long enough
-pub data Played : Memory → List Line → Type 0 where
-  ended : {m : Memory} → Played m []
+pub data LineByLine : Memory → List Line → Type 0 where
+  ended : {m : Memory} → LineByLine m []
   taken : {m : Memory} {l : Line} {ls : List Line} → maxChanges ≤ length (l .room) → outputSize ≤ length (l .out)
-      → Stepped (lent m (l .room) (l .out)) (l .bytes) (l .answer) (l .left) → Played (l .left) ls → Played m (l ∷ ls)
+      → Stepped (lent m (l .room) (l .out)) (l .bytes) (l .answer) (l .left) → LineByLine (l .left) ls → LineByLine m (l ∷ ls)
 
 -- the bytes that a line gave: the filled front of its output
-abbrev pub given : Outcome ℕ → List ℕ → List ℕ
-given (accepted n) out = take n out
-given (refused n) out = []
+abbrev pub filled : Outcome ℕ → List ℕ → List ℕ
+filled (accepted n) out = take n out
+filled (refused n) out = []
 
 abbrev pub printedBy : Line → List ℕ
-printedBy l = given (toldTaken (l .answer)) (l .left .out)
+printedBy l = filled (toldTaken (l .answer)) (l .left .out)
 
 -- no line was met by a rule of the memory
 abbrev pub Accepted : List Line → Type 0
@@ -59,39 +72,57 @@ pub record Fresh (m : Memory) : Type 0 where
   pub states : statesRead m ≡ 0
   pub nodes : nodesRead m ≡ 0
 
--- Demands 2 and 3 of an accepted run, which loads x; and demand 3 of an edit after it: "A frame or later call that makes such edits counts, for
--- book and marks, as the edits it makes."
-pub record Loads (x : Given) (m : Memory) : Type 1 where
-  pub answer : Answer
-  pub demand2 : Demand2 x answer (m .session)
-  pub demand3 : Demand3 x answer (m .session)
+-- the memory holds a moment: it is long enough, and has what was read so far, or the session of the model
+abbrev pub Holds : Moment → Memory → Type 0
+Holds (reading x) m = Ready m × (getD (m .counts) 0 0 ≡ 0) × (readSoFar m ≡ x)
+Holds (running b) m = Ready m × (getD (m .counts) 0 0 ≡ 1) × Faithful b (m .session)
 
-pub record Edits (b : Model) (k : Kind) (u v : ℕ) (m : Memory) : Type 1 where
+-- Demand 1 of an input line, taken in the memory m at a moment that m holds.
+pub record Demand1 (p : Moment) (m : Memory) (l : Line) : Type 0 where
+  -- "is carried out": its lines are printed, and the memory holds the moment after it
+  pub carried : broken p (frameOf (l .bytes)) ≡ 0
+      → (printedBy l ≡ reply p (frameOf (l .bytes)) .lines) × Holds (reply p (frameOf (l .bytes)) .moment) (l .left)
+  -- "refused with the number of the first rule broken, session and change room untouched": nothing is written but the refusal
+  pub refused : (broken p (frameOf (l .bytes)) ≡ 0 → ⊥)
+      → (printedBy l ≡ refusal (broken p (frameOf (l .bytes))))
+      × (l .left ≡ printing (refusal (broken p (frameOf (l .bytes)))) (lent m (l .room) (l .out)))
+
+-- Demands 2 and 3 of an accepted run, which loads x; and demand 3 of an edit after it: "A frame or later call that makes such edits counts, for
+-- book and marks, as the edits it makes." The bytes printed are those of the answer, with the list that the line's room hands back.
+pub record Loads (x : Given) (l : Line) : Type 1 where
+  pub answer : Answer
+  pub prints : printedBy l ≡ answered (told answer) (handedBack (l .left .room) answer)
+  pub demand2 : Demand2 x answer (l .left .session)
+  pub demand3 : Demand3 x answer (l .left .session)
+
+pub record Edits (b : Model) (k : Kind) (u v : ℕ) (l : Line) : Type 1 where
   pub call : Call
-  pub asked : (call .kind ≡ k) × (call .start ≡ u) × (call .end ≡ v)
-  pub left : (call .session ≡ m .session) × (call .changes ≡ m .room)
+  pub asked : (call .kind ≡ k) × (call .start ≡ u) × (call .end ≡ v) × (call .room ≡ l .room)
+  pub left : (call .session ≡ l .left .session) × (call .changes ≡ l .left .room)
+  pub prints : printedBy l ≡ answered (told (call .answer)) (handedBack (l .left .room) (call .answer))
   pub kept : Kept b (step b (editing k u v)) call
 
-abbrev pub Demanded : Moment → Frame → Memory → Type 1
-Demanded (reading x) run m = broken (reading x) run ≡ 0 → Loads x m
-Demanded (reading x) (state mask value links) m = Unit {1}
-Demanded (reading x) (node sample) m = Unit {1}
-Demanded (reading x) (edit k u v) m = Unit {1}
-Demanded (reading x) walk m = Unit {1}
-Demanded (reading x) nothing m = Unit {1}
-Demanded (running b) (edit k u v) m = Edits b k u v m
-Demanded (running b) (state mask value links) m = Unit {1}
-Demanded (running b) (node sample) m = Unit {1}
-Demanded (running b) run m = Unit {1}
-Demanded (running b) walk m = Unit {1}
-Demanded (running b) nothing m = Unit {1}
+abbrev pub Demanded : Moment → Frame → Line → Type 1
+Demanded (reading x) run l = broken (reading x) run ≡ 0 → Loads x l
+Demanded (reading x) (state mask value links) l = Unit {1}
+Demanded (reading x) (node sample) l = Unit {1}
+Demanded (reading x) (edit k u v) l = Unit {1}
+Demanded (reading x) walk l = Unit {1}
+Demanded (reading x) nothing l = Unit {1}
+Demanded (running b) (edit k u v) l = Edits b k u v l
+Demanded (running b) (state mask value links) l = Unit {1}
+Demanded (running b) (node sample) l = Unit {1}
+Demanded (running b) run l = Unit {1}
+Demanded (running b) walk l = Unit {1}
+Demanded (running b) nothing l = Unit {1}
 
-abbrev pub Throughout : Moment → List Line → Type 1
-Throughout p [] = Unit {1}
-Throughout p (l ∷ ls) = Demanded p (frameOf (l .bytes)) (l .left) × Throughout (next p (frameOf (l .bytes))) ls
+abbrev pub Throughout : Moment → Memory → List Line → Type 1
+Throughout p m [] = Unit {1}
+Throughout p m (l ∷ ls) =
+    Demand1 p m l × Demanded p (frameOf (l .bytes)) l × Throughout (next p (frameOf (l .bytes))) (l .left) ls
 
 -- The claim from a moment on: every output byte; no line is met by a rule of the memory; and the demands.
-pub record Whole (p : Moment) (ls : List Line) : Type 1 where
+pub record Whole (p : Moment) (m : Memory) (ls : List Line) : Type 1 where
   pub prints : each printedBy ls ≡ output p (map frameOf (bytesOf ls))
   pub taken : Accepted ls
-  pub demands : Throughout p ls
+  pub demands : Throughout p m ls

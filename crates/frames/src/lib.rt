@@ -6,6 +6,15 @@ pub enum Taken {
     Refused(u8),
 }
 
+// How far a call came in the input: the rule that the lent memory breaks, or 0; how many bytes of output it gave; how many bytes of the block
+// it took; and how long the front of the line begun then is.
+pub struct Progress {
+    pub rule: u8,
+    pub written: usize,
+    pub at: usize,
+    pub begun: usize,
+}
+
 pub struct State {
     pub mask: u16,
     pub value: u16,

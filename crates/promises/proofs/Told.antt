@@ -136,5 +136,8 @@ module _ (m : Model) (s : List ℕ) (f : Faithful m s) where
         handed-list r (listed (marksOf s')) room room' _ (w .report .answer) refl (w .report .room)
         ∙ ap listed (marks-after m s f e room refl r s' room' p (same-rules ∙ ok))
 
+    pub edit-untouched : (verdict (modelRules m (editing k a b)) ≡ 0 → ⊥) → (s' ≡ s) × (room' ≡ room)
+    edit-untouched bad = let u = p .refuses (λ z. bad (sym met ∙ z)) in (u .session, u .room)
+
     pub edit-after : Faithful (step m (editing k a b)) s'
     edit-after = rw same-step at (faithful-step m s f e room refl r s' room' p)

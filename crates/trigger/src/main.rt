@@ -1,86 +1,31 @@
-// Frames from standard input, their answers to standard output. What a line says and what it is answered is the library's to tell.
+// Frames from standard input, their answers to standard output: read, answer, write. Where a line ends, what it says and what it is answered
+// is the library's to tell.
 ghost use mathlib.Core.Path.{_≡_};
 ghost use Prim.Native.Nat.{_≤_};
 ghost use lib.ListN.{length};
+ghost use Rattle.session.specs.Limits.{maxChanges};
+ghost use Rattle.promises.specs.Rules.{verdict};
+ghost use Rattle.frames.specs.Lines.{kept};
+ghost use Rattle.frames.specs.Machine.{memory, outputSize};
+ghost use Rattle.frames.specs.Program.{Fresh};
+ghost use Rattle.frames.specs.Blocks.{inputRules};
+use frame_input::answer_block;
+use frame_input::answer_end;
 use frame_machine::COUNTS_SIZE;
-use frame_machine::OUTPUT_SIZE;
 use frame_machine::WORDS_SIZE;
-use frame_machine::take_line;
-use frames::Taken;
 use libc::STDIN_FILENO;
 use libc::STDOUT_FILENO;
 use line_gathering::KEPT;
-use line_gathering::gather;
 
-// How many bytes of output wait to be written, and whether the program goes on.
-struct Output {
-    used: usize,
-    open: bool,
-}
-
-// How long the front of a line begun is, and whether the program goes on.
+// How long the front of a line begun is, and whether all was written so far.
 struct Begun {
     used: usize,
     open: bool,
 }
 
-// Writes the output that waits.
-fn flush(out: &[u8], output: Output) -> Output
-    requires { ⌜ output .used ≤ length (now out) ⌝ }
-    ensures { λ r. ⌜ r .used ≡ 0 ⌝ }
-{
-    let used = output.used;
-    let written = io::write_all(STDOUT_FILENO, &out[..used]);
-    Output {
-        used: 0,
-        open: output.open && written,
-    }
-}
-
-// Sees that the longest answer fits after the output that waits.
-fn make_room(out: &[u8], output: Output) -> Output
-    requires { ⌜ output .used ≤ length (now out) ⌝ }
-    ensures { λ r. ⌜ r .used ≤ length (now (out .entry)) ⌝ }
-{
-    if out.len() - output.used < OUTPUT_SIZE {
-        flush(out, output)
-    } else {
-        output
-    }
-}
-
-// Puts the answer to a line after the output that waits. The machine refuses only memory that is too short or miscounted; `main`
-// lends none such.
-fn answer(
-    counts: &mut [u32],
-    words: &mut [u16],
-    session: &mut [u32],
-    changes: &mut [i32],
-    line: &[u8],
-    out: &mut [u8],
-    output: Output,
-) -> Output
-    requires { ⌜ output .used ≤ length (now out) ⌝ }
-    ensures { λ r. ⌜ r .used ≤ length (now (out .entry)) ⌝ }
-{
-    let room = make_room(out, output);
-    if !room.open {
-        return room;
-    }
-    let used = room.used;
-    let taken = take_line(counts, words, session, changes, line, &mut out[used..]);
-    match taken {
-        Taken::Written(n) => Output {
-            used: used + n,
-            open: true,
-        },
-        Taken::Refused(_) => Output { used, open: false },
-    }
-}
-
-// Answers each line that ends in the block. The answers are written before the next block is waited for, so that each reaches the
-// other end of a pipe at once.
-fn answer_block(
+// Answers a block, part by part as the output holds the answers. They are written before more is read, so that each reaches the other end
+// of a pipe at once.
+fn answer_whole(
     counts: &mut [u32],
     words: &mut [u16],
     session: &mut [u32],
@@ -90,29 +35,28 @@ fn answer_block(
     block: &[u8],
     out: &mut [u8],
 ) -> Begun
-    requires { ⌜ begun ≤ length (now front) ⌝ }
-    ensures { λ r. ⌜ r .used ≤ length (now (front .entry)) ⌝ }
+    requires { ⌜ verdict (inputRules (memory (now counts) (now words) (now session) (now changes) (now out)) (now front)) ≡ 0 ⌝ }
+    ensures { λ r. ⌜ verdict (inputRules (memory (now (counts .exit)) (now (words .exit)) (now (session .exit)) (now (changes .exit)) (now (out .exit))) (now (front .exit))) ≡ 0 ⌝ }
 {
-    let mut line = begun;
     let mut at = 0;
-    let mut output = Output {
-        used: 0,
-        open: true,
-    };
-    while at < block.len() && output.open {
-        let gathered = gather(front, line, block, at);
-        at = gathered.at;
-        line = gathered.used;
-        if gathered.ended {
-            output = answer(counts, words, session, changes, &front[..line], out, output);
-            line = 0;
-        }
+    let mut line = begun;
+    let mut open = true;
+    while at < block.len() && open {
+        let progress = answer_block(
+            counts,
+            words,
+            session,
+            changes,
+            front,
+            line,
+            &block[at..],
+            out,
+        );
+        open = io::write_all(STDOUT_FILENO, &out[..progress.written]);
+        line = progress.begun;
+        at += progress.at;
     }
-    output = flush(out, output);
-    Begun {
-        used: line,
-        open: output.open,
-    }
+    Begun { used: line, open }
 }
 
 // Answers the blocks of the input, to its end. Nothing says that an input ends: the turns are counted down, from a number that no
@@ -126,7 +70,8 @@ fn answer_blocks(
     block: &mut [u8],
     out: &mut [u8],
 ) -> Begun
-    ensures { λ r. ⌜ r .used ≤ length (now (front .entry)) ⌝ }
+    requires { ⌜ verdict (inputRules (memory (now counts) (now words) (now session) (now changes) (now out)) (now front)) ≡ 0 ⌝ }
+    ensures { λ r. ⌜ verdict (inputRules (memory (now (counts .exit)) (now (words .exit)) (now (session .exit)) (now (changes .exit)) (now (out .exit))) (now (front .exit))) ≡ 0 ⌝ }
 {
     let mut begun = Begun {
         used: 0,
@@ -138,7 +83,7 @@ fn answer_blocks(
         if n == 0 {
             break;
         }
-        begun = answer_block(
+        begun = answer_whole(
             counts,
             words,
             session,
@@ -153,7 +98,7 @@ fn answer_blocks(
     begun
 }
 
-// Answers the input. Its end ends a line that was begun, as a line feed does.
+// Answers the input and its end, in memory at its start. What could not be written ends the program.
 fn answer_input(
     counts: &mut [u32],
     words: &mut [u16],
@@ -162,11 +107,13 @@ fn answer_input(
     front: &mut [u8],
     block: &mut [u8],
     out: &mut [u8],
-) {
+)
+    requires { ⌜ Fresh (memory (now counts) (now words) (now session) (now changes) (now out)) × (maxChanges ≤ length (now changes)) × (outputSize ≤ length (now out)) × (kept ≤ length (now front)) ⌝ }
+{
     let begun = answer_blocks(counts, words, session, changes, front, block, out);
-    let used = begun.used;
-    if begun.open && 0 < used {
-        answer_block(counts, words, session, changes, front, used, b"\n", out);
+    if begun.open {
+        let progress = answer_end(counts, words, session, changes, front, begun.used, out);
+        io::write_all(STDOUT_FILENO, &out[..progress.written]);
     }
 }
 

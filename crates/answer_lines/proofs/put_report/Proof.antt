@@ -7,7 +7,7 @@ use Rattle.listing.specs.Placed.{Placed}
 use Rattle.listing.proofs.Placing.{placed-append}
 use Rattle.frames.specs.Digits.{digits}
 use mathlib.Core.Bool.{Bool, cond}
-use Rattle.frames.specs.Outputs.{accepted}
+use Rattle.frames.specs.Outputs.{reportLine}
 use Rattle.frames.proofs.Written.{bool-number, pair-long, four-parts, room-after}
 use Rattle.answer_lines.proofs.put_report.Statement.{statement}
 use Rattle.answer_lines.proofs.put_report.Tie as tie
@@ -34,7 +34,7 @@ same-length : tie.Need-same-length
 same-length c = search needs
 
 returns : tie.Need-returns
-unfolding accepted
+unfolding reportLine
 returns c =
     let s = c .before .before .before .before .before .before .before .before .before in
     rw (← four-parts (digits 2 128) (digits 2 (cond (s .args .fires) 1 0)) (digits 4 (s .args .trials) ++ digits 4 (s .args .changes)) (10 ∷ []))

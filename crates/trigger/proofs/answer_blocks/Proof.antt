@@ -1,22 +1,25 @@
--- The front is filled inside; the count of turns falls.
+-- The memory breaks no rule after each block; the count of turns falls.
 use borrow.Author.Needs.{needs}
-use Prim.Native.Nat.{_≤_}
-use mathlib.Core.Path.{_≡_}
+use mathlib.Core.Path.{_≡_, refl, _∙_}
 use lib.ListN.{length}
+use Rattle.promises.specs.Rules.{verdict}
+use Rattle.frames.specs.Machine.{memory}
+use Rattle.frames.specs.Blocks.{inputRules}
 use Rattle.trigger.proofs.answer_blocks.Statement.{statement}
 use Rattle.trigger.proofs.answer_blocks.Tie as tie
 
 abbrev Inv-loop : tie.InvT-loop
 Inv-loop counts₀ words₀ session₀ changes₀ front₀ block₀ out₀ begun₀ turns₀ counts words session changes front block out begun turns =
-    (length counts ≡ length counts₀) × (length words ≡ length words₀) × (length session ≡ length session₀) × (length changes ≡ length changes₀)
-    × (length front ≡ length front₀) × (length block ≡ length block₀) × (length out ≡ length out₀) × (begun .used ≤ length front₀)
+    (verdict (inputRules (memory counts words session changes out) front) ≡ 0) × (length counts ≡ length counts₀) × (length words ≡ length words₀)
+    × (length session ≡ length session₀) × (length changes ≡ length changes₀) × (length front ≡ length front₀) × (length block ≡ length block₀)
+    × (length out ≡ length out₀)
 
 abbrev μ-loop : tie.MeasureT-loop
 μ-loop counts₀ words₀ session₀ changes₀ front₀ block₀ out₀ begun₀ turns₀ counts words session changes front block out begun turns =
     turns
 
 loop-holds : tie.Need-loop-holds Inv-loop μ-loop
-loop-holds c = search needs
+loop-holds c = (c .before .before .before .before .before .before .pre, refl, refl, refl, refl, refl, refl, refl)
 
 read-requires : tie.Need-read-requires Inv-loop μ-loop
 read-requires c κs = search needs
@@ -24,14 +27,14 @@ read-requires c κs = search needs
 count-requires : tie.Need-count-requires Inv-loop μ-loop
 count-requires c κs = search needs
 
-slice-reshare-prefix-answer-block : tie.Need-slice-reshare-prefix-answer-block Inv-loop μ-loop
-slice-reshare-prefix-answer-block c = search needs
+slice-reshare-prefix-answer-whole : tie.Need-slice-reshare-prefix-answer-whole Inv-loop μ-loop
+slice-reshare-prefix-answer-whole c = search needs
 
-slice-aggregate-answer-block : tie.Need-slice-aggregate-answer-block Inv-loop μ-loop
-slice-aggregate-answer-block c = search needs
+slice-aggregate-answer-whole : tie.Need-slice-aggregate-answer-whole Inv-loop μ-loop
+slice-aggregate-answer-whole c = search needs
 
-answer-block-requires : tie.Need-answer-block-requires Inv-loop μ-loop
-answer-block-requires c κs = search needs
+answer-whole-requires : tie.Need-answer-whole-requires Inv-loop μ-loop
+answer-whole-requires c κs = c .before .before .before .before .before .before .before .before .before .before .before .before .before .before .before .before .loop .inv .0
 
 sub-turns : tie.Need-sub-turns Inv-loop μ-loop
 sub-turns c = search needs
@@ -64,7 +67,7 @@ same-length-7 : tie.Need-same-length-7 Inv-loop μ-loop
 same-length-7 c = search needs
 
 returns : tie.Need-returns Inv-loop μ-loop
-returns c = search needs
+returns c = c .before .before .loop .inv .0
 
 same-length-8 : tie.Need-same-length-8 Inv-loop μ-loop
 same-length-8 c = search needs
@@ -88,7 +91,7 @@ same-length-14 : tie.Need-same-length-14 Inv-loop μ-loop
 same-length-14 c = search needs
 
 returns-2 : tie.Need-returns-2 Inv-loop μ-loop
-returns-2 c = search needs
+returns-2 c = c .before .loop .inv .0
 
 same-length-15 : tie.Need-same-length-15 Inv-loop μ-loop
 same-length-15 c = search needs
@@ -112,7 +115,7 @@ same-length-21 : tie.Need-same-length-21 Inv-loop μ-loop
 same-length-21 c = search needs
 
 returns-3 : tie.Need-returns-3 Inv-loop μ-loop
-returns-3 c = search needs
+returns-3 c = c .before .before .before .before .before .before .before .before .before .loop .inv .0
 
 pub answer-blocks-spec : {M : Type 1} → statement M
 answer-blocks-spec =
@@ -123,9 +126,9 @@ answer-blocks-spec =
     loop-holds
     read-requires
     count-requires
-    slice-reshare-prefix-answer-block
-    slice-aggregate-answer-block
-    answer-block-requires
+    slice-reshare-prefix-answer-whole
+    slice-aggregate-answer-whole
+    answer-whole-requires
     sub-turns
     loop-less
     loop-again

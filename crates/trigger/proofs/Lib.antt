@@ -1,3 +1,0 @@
--- What the program uses of the library's promises.
-pub mod Fitting
-pub mod Falling

@@ -1,0 +1,66 @@
+-- The memory is long enough, and zero.
+use Prim.Native.Nat.{ℕ}
+use borrow.Author.Needs.{needs}
+use native.Mathlib.Omega.{arith}
+use mathlib.Core.Path.{refl}
+use lib.IntN.{pos}
+use lib.ListN.{length-replicate}
+use Rattle.trigger.proofs.main.Statement.{statement}
+use Rattle.trigger.proofs.main.Tie as tie
+
+large-buffer-requires : tie.Need-large-buffer-requires
+large-buffer-requires c κs = search needs
+
+slice-aggregate-answer-input : tie.Need-slice-aggregate-answer-input
+slice-aggregate-answer-input c = search needs
+
+slice-aggregate-answer-input-2 : tie.Need-slice-aggregate-answer-input-2
+slice-aggregate-answer-input-2 c = search needs
+
+slice-aggregate-answer-input-3 : tie.Need-slice-aggregate-answer-input-3
+slice-aggregate-answer-input-3 c = search needs
+
+slice-aggregate-answer-input-4 : tie.Need-slice-aggregate-answer-input-4
+slice-aggregate-answer-input-4 c = search needs
+
+slice-aggregate-answer-input-5 : tie.Need-slice-aggregate-answer-input-5
+slice-aggregate-answer-input-5 c = search needs
+
+slice-aggregate-answer-input-6 : tie.Need-slice-aggregate-answer-input-6
+slice-aggregate-answer-input-6 c = search needs
+
+slice-aggregate-answer-input-7 : tie.Need-slice-aggregate-answer-input-7
+slice-aggregate-answer-input-7 c = search needs
+
+answer-input-requires : tie.Need-answer-input-requires
+answer-input-requires c κs = (
+  record {
+    counts = omega (arith, length-replicate {A = ℕ} 19 0);
+    words = omega (arith, length-replicate {A = ℕ} 544 0);
+    session = omega (arith, length-replicate {A = ℕ} 3123 0);
+    moment = refl;
+    states = refl;
+    nodes = refl;
+  },
+  omega (arith, length-replicate 8192 (pos 0)),
+  omega (arith, length-replicate {A = ℕ} 262144 0),
+  omega (arith, length-replicate {A = ℕ} 15 0),
+)
+
+returns : tie.Need-returns
+returns c = search needs
+
+pub main-spec : {M : Type 1} → statement M
+main-spec =
+    tie.close
+    (tie.spec
+    large-buffer-requires
+    slice-aggregate-answer-input
+    slice-aggregate-answer-input-2
+    slice-aggregate-answer-input-3
+    slice-aggregate-answer-input-4
+    slice-aggregate-answer-input-5
+    slice-aggregate-answer-input-6
+    slice-aggregate-answer-input-7
+    answer-input-requires
+    returns)
