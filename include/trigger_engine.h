@@ -149,21 +149,24 @@ trigger_answer trigger_load(
     int32_t *changes, size_t changes_length);
 
 /* Inserts the edge from start to end. Rules 3, 10, 11, 12, 13.
-   Accepted: the session holds the edge too; trigger, samples and all other edges stay. Where its marks were those of its graph, as a load and every
-   edit leave them, they are at exactly the pairs that stand now; the changes are the pairs that began to stand, ascending by size, at the front, and the
-   places after them are as before; the answer tells whether the trigger fires, the number of pairs tried (the least set that the insertion can reach)
-   and the number of changes. On a session in layout with other marks: marks are only set, at admitted pairs; changes and firing are of the marks left;
-   the trial count is at most the number of admitted pairs. */
+   Accepted: the session holds the edge too; trigger, samples and all other edges stay, and words past its 3,123 are as before. Where its marks were at
+   exactly the pairs that stood, they are at exactly the pairs that stand now; the changes are the pairs that began to stand, ascending by size, at the
+   front, and the places after them are as before; the answer tells whether the trigger fires, the number of pairs tried (the least set that the insertion
+   can reach) and the number of changes. An accepted load leaves such marks, whatever it met; an accepted edit leaves them where it met them.
+   On a session in layout with other marks: marks are only set, at admitted pairs; the changes are the pairs that got a mark, listed in the same way;
+   firing is of the marks left; the trial count is at most the number of admitted pairs. */
 trigger_answer trigger_insert(
     uint32_t *session, size_t session_length,
     uint32_t start, uint32_t end,
     int32_t *changes, size_t changes_length);
 
 /* Deletes the edge from start to end. Rules 3, 10, 11, 14.
-   Accepted: the session does not hold the edge; trigger, samples and all other edges stay. Where its marks were those of its graph they are at exactly
-   the pairs that stand now; the changes are the pairs that ceased to stand, ascending by size, at the front, and the places after them are as before; the
-   answer tells whether the trigger fires, the number of pairs that ceased as the trial count, and the number of changes. On a session in layout with
-   other marks: marks are only cleared; changes, trial count and firing are of the marks left. */
+   Accepted: the session does not hold the edge; trigger, samples and all other edges stay, and words past its 3,123 are as before. Where its marks were at
+   exactly the pairs that stood, they are at exactly the pairs that stand now; the changes are the pairs that ceased to stand, ascending by size, at the
+   front, and the places after them are as before; the answer tells whether the trigger fires, the number of pairs that ceased as the trial count, and the
+   number of changes.
+   On a session in layout with other marks: marks are only cleared; the changes are the pairs that lost their mark, listed in the same way, and the trial
+   count is their number; firing is of the marks left. */
 trigger_answer trigger_delete(
     uint32_t *session, size_t session_length,
     uint32_t start, uint32_t end,
