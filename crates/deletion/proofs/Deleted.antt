@@ -1,9 +1,11 @@
 -- A deletion from the session at entry: the edge is taken out, and the marks stay where they are steady, or those that refinement leaves are stored.
 use Prim.Native.Nat.{ℕ, _<_}
+use native.Mathlib.Nat.{lt-of-lt-of-le}
 use mathlib.Core.Path.{_≡_, sym}
 use mathlib.Core.Bool.{true}
 use mathlib.Core.List.{List}
 use Rattle.simulation.proofs.Terms.{joined}
+use Rattle.simulation.proofs.Plain.{joined-parted}
 use Rattle.session.specs.Trigger.{nodes, edge}
 use Rattle.session.specs.Layout.{triggerOf, graphOf, marksOf, validMarks, inLayout}
 use Rattle.session.proofs.Valid.{edge-remove, marks-facts, marks-valid}
@@ -40,7 +42,9 @@ module _ (xs : List ℕ) (a b : ℕ) (h : inLayout xs ≡ true) (ok : verdict (g
   facts = layout-facts xs₁ deleted-layout
 
   one-more : edge (record { samples = graphOf xs₁ .samples; edges = graphOf xs .edges }) ≡ joined (edge (graphOf xs₁)) a b
-  one-more = rw graph-is (sym (edge-remove (graphOf xs) a b (deletion-passed (graphOf xs) a b ok .2)))
+  one-more =
+      let passed = deletion-passed (graphOf xs) a b ok in
+      rw (graph-is, edge-remove (graphOf xs) a b (lt-of-lt-of-le (passed .1) (layout-facts xs h .graph .few))) (joined-parted (edge (graphOf xs)) a b (passed .2))
 
   was-right : marksOf xs ≡ stands (triggerOf xs) (graphOf xs)
       → marksOf xs₁ ≡ stands (triggerOf xs₁) (record { samples = graphOf xs₁ .samples; edges = graphOf xs .edges })

@@ -7,7 +7,9 @@ use mathlib.Core.Bool.{Bool, true, false, not, _&&_}
 use lib.Dec.{ltb, leb}
 use lib.ListN.{length}
 use borrow.Author.Tests.{ltb-true, leb-false, not-false}
+use Rattle.simulation.proofs.Terms.{joined}
 use Rattle.simulation.proofs.Sets.{clash, and-l, and-r}
+use Rattle.simulation.proofs.Plain.{joined-parted}
 use Rattle.session.specs.Limits.{maxEdges}
 use Rattle.session.specs.Trigger.{Trigger, Graph, Marks, nodes, edge}
 use Rattle.session.proofs.Valid.{GraphFacts, edge-insert, edge-remove, graph-insert, graph-remove}
@@ -67,6 +69,6 @@ edited-chain insertion t g a b f ok u v differs =
 edited-chain deletion t g a b f ok u v differs =
     let w = deletion-passed g a b ok in
     let g' = edited deletion g a b in
-    let more = sym (edge-remove g a b (w .2)) in
+    let more : edge g ≡ joined (edge g') a b = rw (edge-remove g a b (lt-of-lt-of-le (w .1) (f .few))) (joined-parted (edge g) a b (w .2)) in
     let d = only-gained (stands t g') (stands t g) u v (stands-grows t (g .samples) (g' .edges) (g .edges) a b more u v) (λ e. differs (sym e)) in
     stands-chain t (g .samples) (g' .edges) (g .edges) a b more (stands t g) (stands t g') (λ u v old new e. clash new (e ∙ old)) u v (d .0) (d .1)

@@ -11,7 +11,7 @@ use lib.Pow.{pow-pos}
 use borrow.Author.Tests.{ltb-true, lt-ltb, leb-true, le-leb, eqb-true, eq-eqb}
 use Rattle.simulation.specs.Sets.{allBelow}
 use Rattle.simulation.specs.Ordered.{elem, ascends}
-use Rattle.simulation.proofs.Terms.{joined}
+use Rattle.simulation.proofs.Terms.{joined, parted}
 use Rattle.simulation.proofs.Sets.{clash, refuted, and-make, and-l, and-r, implies-make, implies-take, all-make, all-take}
 use Rattle.simulation.proofs.Ordered.{
   Rising,
@@ -159,14 +159,14 @@ module _ (g : Graph) where
 -- ---- one edge more, one edge less
 
 module _ (g : Graph) (a b : ℕ) where
-  -- the edges then
+  -- the edges then: just this one more, just this one less
   pub edge-insert : b < maxNodes → edge (withEdge g a b) ≡ joined (edge g) a b
   unfolding edge
   edge-insert l = joins-insert maxNodes (g .edges) a b l
 
-  pub edge-remove : edge g a b ≡ true → joined (edge (withoutEdge g a b)) a b ≡ edge g
+  pub edge-remove : b < maxNodes → edge (withoutEdge g a b) ≡ parted (edge g) a b
   unfolding edge
-  edge-remove h = joins-remove maxNodes (g .edges) a b (elem-joins maxNodes (g .edges) a b h .0) h
+  edge-remove l = joins-remove maxNodes (g .edges) a b l
 
   -- the graph stays valid, where the edge is new and there is room; with one less always
   pub graph-insert : GraphFacts g → a < nodes g → b < nodes g → edge g a b ≡ false → length (g .edges) < maxEdges

@@ -9,18 +9,18 @@ use lib.ListN.{length, getD}
 use borrow.Author.Tests.{ltb-true, lt-ltb, eqb-true, eq-eqb}
 use mathlib.Core.Path.{_≡_, refl, sym, _∙_, ap, fun-ext}
 use mathlib.Core.Logic.{⊎-elim}
-use mathlib.Core.Bool.{Bool, true, not, _&&_, _||_}
+use mathlib.Core.Bool.{Bool, true, false, not, _&&_, _||_}
 use mathlib.Core.List.{List}
 use Rattle.simulation.specs.Sets.{Set, In, anyBelow, allBelow}
 use Rattle.simulation.specs.System.{supported, reaches}
 use Rattle.simulation.specs.Pattern.{Pattern, pair, paired, system, plain}
 use Rattle.simulation.specs.Ordered.{elem, insert, remove, joins, from, leads}
-use Rattle.simulation.proofs.Terms.{joined}
-use Rattle.simulation.proofs.Sets.{split, same, and-make, and-l, and-r, or-l, or-r, or-take, not-make, implies-make, implies-take, any-make, any-take, all-make, all-take}
+use Rattle.simulation.proofs.Terms.{joined, parted}
+use Rattle.simulation.proofs.Sets.{split, clash, refuted, same, and-make, and-l, and-r, or-l, or-r, or-take, not-make, implies-make, implies-take, any-make, any-take, all-make, all-take}
 use Rattle.simulation.proofs.System.{Met, supported-make, supported-take, reaches-make, reaches-take}
 use Rattle.simulation.proofs.Pattern.{pair-state, pair-node, pair-inside, node-inside, pair-whole, paired-pair, meets-make, met-at, due-at}
 use Rattle.simulation.proofs.Search.{lt-or-le, found-make, found-take}
-use Rattle.simulation.proofs.Ordered.{Rising, elem-at, elem-index, place-le, before-place, place-at, after-place, elem-insert, elem-remove, insert-take, remove-take}
+use Rattle.simulation.proofs.Ordered.{Rising, elem-at, elem-index, place-le, before-place, place-at, after-place, elem-insert, elem-remove}
 
 positive : (x m k : ℕ) → x < m * k → 0 < k
 positive x m zero h = absurd (omega arith)
@@ -63,59 +63,47 @@ module _ (width : ℕ) where
 
   -- ---- one edge more, one edge less
 
-  pub joins-insert : (es : List ℕ) (a b : ℕ) → b < width → joins width (insert (a * width + b) es) ≡ joined (joins width es) a b
-  joins-insert es a b l = fun-ext (λ v. fun-ext (λ w. same (joins width (insert c es) v w) (joined (joins width es) a b v w) (there v w) (back v w)))
-    where
-      c : ℕ
-      c = a * width + b
+  -- two edges have one number just where they have the same ends
+  edge-number : (v w a b : ℕ) → w < width → b < width → eqb (v * width + w) (a * width + b) ≡ (eqb v a && eqb w b)
+  edge-number v w a b k l =
+      same (eqb (v * width + w) (a * width + b)) (eqb v a && eqb w b)
+      (λ e. let s = edge-ends v w a b k l (eqb-true (v * width + w) (a * width + b) e) in and-make (eq-eqb v a (s .0)) (eq-eqb w b (s .1)))
+      (λ e.
+      let p = eqb-true v a (and-l (eqb v a) (eqb w b) e) in
+      let q = eqb-true w b (and-r (eqb v a) (eqb w b) e) in
+      rw (p, q) (eq-eqb (a * width + b) (a * width + b) refl))
 
-      there : (v w : ℕ) → joins width (insert c es) v w ≡ true → joined (joins width es) a b v w ≡ true
-      there v w h =
-          let r = elem-joins (insert c es) v w h in
-          ⊎-elim
-          (λ e. or-l (eqb v a && eqb w b) (joins-make es v w (r .0) e))
-          (λ e. let s = edge-ends v w a b (r .0) l e in or-r (joins width es v w) (and-make (eq-eqb v a (s .0)) (eq-eqb w b (s .1))))
-          (insert-take c (v * width + w) es (r .1))
+  module _ (es : List ℕ) (a b : ℕ) (l : b < width) where
+    -- just this edge more
+    pub joins-insert : joins width (insert (a * width + b) es) ≡ joined (joins width es) a b
+    unfolding joins
+    joins-insert =
+        fun-ext
+        (λ v.
+        fun-ext
+        (λ w.
+        let c = a * width + b in
+        ⊎-elim
+        (λ (e : ltb w width ≡ true). rw (e, elem-insert c (v * width + w) es, edge-number v w a b (ltb-true w width e) l))
+        (λ (e : ltb w width ≡ false).
+        let other : (eqb v a && eqb w b) ≡ false = refuted (eqb v a && eqb w b)
+        (λ m. clash (lt-ltb w width (rw (eqb-true w b (and-r (eqb v a) (eqb w b) m)) l)) e) in
+        rw (e, other))
+        (split (ltb w width))))
 
-      back : (v w : ℕ) → joined (joins width es) a b v w ≡ true → joins width (insert c es) v w ≡ true
-      back v w h =
-          ⊎-elim
-          (λ e.
-          let r = elem-joins es v w e in
-          joins-make (insert c es) v w (r .0) (elem-insert c (v * width + w) es ∙ or-l (eqb (v * width + w) c) (r .1)))
-          (λ e.
-          let p = eqb-true v a (and-l (eqb v a) (eqb w b) e) in
-          let q = eqb-true w b (and-r (eqb v a) (eqb w b) e) in
-          rw (p, q) (joins-make (insert c es) a b l (elem-insert c c es ∙ or-r (elem c es) (eq-eqb c c refl))))
-          (or-take (joins width es v w) (eqb v a && eqb w b) h)
-
-  pub joins-remove : (es : List ℕ) (a b : ℕ) → b < width → joins width es a b ≡ true → joined (joins width (remove (a * width + b) es)) a b ≡ joins width es
-  joins-remove es a b l h =
-      fun-ext (λ v. fun-ext (λ w. same (joined (joins width (remove c es)) a b v w) (joins width es v w) (there v w) (back v w)))
-    where
-      c : ℕ
-      c = a * width + b
-
-      there : (v w : ℕ) → joined (joins width (remove c es)) a b v w ≡ true → joins width es v w ≡ true
-      there v w k =
-          ⊎-elim
-          (λ e. let r = elem-joins (remove c es) v w e in joins-make es v w (r .0) (remove-take c (v * width + w) es (r .1) .0))
-          (λ e.
-          let p = eqb-true v a (and-l (eqb v a) (eqb w b) e) in
-          let q = eqb-true w b (and-r (eqb v a) (eqb w b) e) in
-          rw (p, q) h)
-          (or-take (joins width (remove c es) v w) (eqb v a && eqb w b) k)
-
-      back : (v w : ℕ) → joins width es v w ≡ true → joined (joins width (remove c es)) a b v w ≡ true
-      back v w k =
-          let r = elem-joins es v w k in
-          let x = v * width + w in
-          ⊎-elim
-          (λ e.
-          let s = edge-ends v w a b (r .0) l (eqb-true x c e) in
-          or-r (joins width (remove c es) v w) (and-make (eq-eqb v a (s .0)) (eq-eqb w b (s .1))))
-          (λ e. or-l (eqb v a && eqb w b) (joins-make (remove c es) v w (r .0) (elem-remove c x es ∙ and-make (r .1) (not-make e))))
-          (split (eqb x c))
+    -- just this edge less
+    pub joins-remove : joins width (remove (a * width + b) es) ≡ parted (joins width es) a b
+    unfolding joins
+    joins-remove =
+        fun-ext
+        (λ v.
+        fun-ext
+        (λ w.
+        let c = a * width + b in
+        ⊎-elim
+        (λ (e : ltb w width ≡ true). rw (e, elem-remove c (v * width + w) es, edge-number v w a b (ltb-true w width e) l))
+        (λ (e : ltb w width ≡ false). rw e)
+        (split (ltb w width))))
 
   -- ---- the edges from a node are a range of the list
 

@@ -3,14 +3,14 @@ use Prim.Native.Nat.{ℕ, _+_, _*_, _/_, _%_, _<_}
 use native.Mathlib.Nat.{div-add-mod'}
 use lib.Dec.{eqb}
 use borrow.Author.Tests.{eqb-true, eq-eqb}
-use mathlib.Core.Path.{_≡_, sym, _∙_, ap}
+use mathlib.Core.Path.{_≡_, sym, _∙_, ap, fun-ext}
 use mathlib.Core.Logic.{⊎-elim}
-use mathlib.Core.Bool.{Bool, true, false, _&&_}
+use mathlib.Core.Bool.{Bool, true, false, not, _&&_, _||_, or-false, and-true}
 use Rattle.simulation.specs.Sets.{Set, In, none, union, minus, anyBelow}
 use Rattle.simulation.specs.System.{System, supported, greatest, refined, closure}
 use Rattle.simulation.specs.Pattern.{Pattern, pair, system, best, plain}
-use Rattle.simulation.proofs.Terms.{Chain, meeting, touched, changed, joined}
-use Rattle.simulation.proofs.Sets.{clash, refuted, and-make, and-l, and-r, or-l, or-take, any-make}
+use Rattle.simulation.proofs.Terms.{Chain, meeting, touched, changed, joined, parted}
+use Rattle.simulation.proofs.Sets.{clash, split, refuted, and-make, and-l, and-r, or-l, or-r, or-take, any-make}
 use Rattle.simulation.proofs.System.{reaches-take}
 use Rattle.simulation.proofs.Change.{minus-l, minus-r, chain-map, greatest-grows, shrinks, untouched, chain, inserted}
 use Rattle.simulation.proofs.Pattern.{paired-pair, meets-take, meets-make, best-state, best-pair, best-make}
@@ -21,6 +21,21 @@ joined-new e a b v w h k =
     ⊎-elim (λ d. clash d k)
     (λ d. (eqb-true v a (and-l (eqb v a) (eqb w b) d), eqb-true w b (and-r (eqb v a) (eqb w b) d)))
     (or-take (e v w) (eqb v a && eqb w b) h)
+
+-- an edge of the graph, taken out and put in again
+pub joined-parted : (e : ℕ → ℕ → Bool) (a b : ℕ) → e a b ≡ true → e ≡ joined (parted e a b) a b
+joined-parted e a b h =
+    fun-ext
+    (λ v.
+    fun-ext
+    (λ w.
+    ⊎-elim
+    (λ (d : (eqb v a && eqb w b) ≡ true).
+    let p = eqb-true v a (and-l (eqb v a) (eqb w b) d) in
+    let q = eqb-true w b (and-r (eqb v a) (eqb w b) d) in
+    (rw (p, q) h) ∙ sym (or-r (e v w && not (eqb v a && eqb w b)) d))
+    (λ (d : (eqb v a && eqb w b) ≡ false). rw (d, and-true (e v w), or-false (e v w)))
+    (split (eqb v a && eqb w b))))
 
 -- the pairs at the edge's start that have a link to a state which its end admits
 abbrev pub plain-seeds : ℕ → (ℕ → ℕ → Bool) → (ℕ → ℕ → Bool) → ℕ → ℕ → Set

@@ -1,7 +1,7 @@
--- What the laws speak of beside the definitions in specs/: simulations as relations, chains, and one edge more.
+-- What the laws speak of beside the definitions in specs/: simulations as relations, chains, one edge more and one less.
 use Prim.Native.Nat.{ℕ, _<_}
 use mathlib.Core.Path.{_≡_}
-use mathlib.Core.Bool.{Bool, true, _&&_, _||_}
+use mathlib.Core.Bool.{Bool, true, not, _&&_, _||_}
 use lib.Dec.{eqb}
 use Rattle.simulation.specs.Sets.{Set, In, minus}
 use Rattle.simulation.specs.System.{System, greatest, reaches}
@@ -49,6 +49,9 @@ carrying P c = record {
   carry = c;
 }
 
--- a graph with one edge more
+-- a graph with one edge more, or one less: the edge from a to b
 abbrev pub joined : (ℕ → ℕ → Bool) → ℕ → ℕ → ℕ → ℕ → Bool
 joined e a b v w = e v w || (eqb v a && eqb w b)
+
+abbrev pub parted : (ℕ → ℕ → Bool) → ℕ → ℕ → ℕ → ℕ → Bool
+parted e a b v w = e v w && not (eqb v a && eqb w b)
