@@ -7,7 +7,6 @@ ghost use Rattle.listing.specs.Placed.{Placed};
 ghost use Rattle.promises.specs.Answers.{told, handedBack};
 ghost use Rattle.frames.specs.Digits as d;
 ghost use Rattle.frames.specs.Outputs as o;
-use change_lists::begins;
 use change_lists::size_of;
 use digits::put_digits;
 use promises::Answer;
@@ -65,10 +64,10 @@ pub fn complement(change: i32) -> u32
     ensures { λ r. ⌜ r ≡ o.complement change ⌝ }
 {
     let size = size_of(change);
-    if begins(change) {
-        size
-    } else {
+    if change < 0 {
         4294967295 - (size - 1)
+    } else {
+        size
     }
 }
 

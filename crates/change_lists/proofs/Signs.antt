@@ -2,11 +2,11 @@
 use Prim.Native.Nat.{zero, suc, _<_, _^_}
 use native.Mathlib.Omega.{arith}
 use mathlib.Core.Path.{_≡_, refl, sym, ap, _∙_, subst}
-use mathlib.Core.Bool.{true, false, true≢false}
+use mathlib.Core.Bool.{true, false, not, true≢false}
 use lib.IntN.{ℤ, pos, negsuc, negℤ, natAbs, _-ℤ_, +ℤ-idl}
-use lib.Signed.{nonNeg, ltZ, leZ}
-use lib.Dec.{T, leb·zero}
-use borrow.Author.Tests.{ltb-true}
+use lib.Signed.{nonNeg, ltZ}
+use lib.Dec.{T}
+use borrow.Author.Tests.{ltb-true, le-ltb}
 use mir.Syntax.{Width, w32, w64}
 use mir.Val.{hbits, SFits, toZ, ofZ}
 use mir.ValLaws.{toZ-ofZ}
@@ -48,6 +48,6 @@ pub not-below : (z : ℤ) → ltZ z (pos 0) ≡ false → T (nonNeg z)
 not-below (pos n) e = tt
 not-below (negsuc n) e = absurd (true≢false e)
 
-pub at-least-zero : (z : ℤ) → leZ (pos 0) z ≡ nonNeg z
-at-least-zero (pos n) = leb·zero n
-at-least-zero (negsuc n) = refl
+pub below-sign : (z : ℤ) → ltZ z (pos 0) ≡ not (nonNeg z)
+below-sign (pos n) = le-ltb n 0 (omega arith)
+below-sign (negsuc n) = refl

@@ -2,8 +2,8 @@
 ghost use mathlib.Core.Path.{_≡_};
 ghost use Prim.Native.Nat.{_+_, _*_, _<_, _≤_};
 ghost use lib.Dec.{eqb};
-ghost use lib.IntN.{natAbs};
-ghost use lib.Signed.{nonNeg};
+ghost use lib.IntN.{pos, natAbs};
+ghost use lib.Signed.{ltZ};
 ghost use lib.ListN.{length, getD};
 ghost use Rattle.simulation.specs.Sets.{allBelow};
 ghost use Rattle.session.specs.Limits.{maxChanges, maxNodes, maxStates};
@@ -30,11 +30,11 @@ pub fn size_of(change: i32) -> u32
     }
 }
 
-// Whether the pair begins to stand.
+// Whether the pair begins to stand: the change is positive.
 pub fn begins(change: i32) -> bool
-    ensures { λ r. ⌜ r ≡ nonNeg change ⌝ }
+    ensures { λ r. ⌜ r ≡ ltZ (pos 0) change ⌝ }
 {
-    0 <= change
+    0 < change
 }
 
 // The node of a change, and the number of its state.

@@ -1,15 +1,14 @@
 -- `begins` meets its contract.
-use mathlib.Core.Path.{ap, _∙_}
+use mathlib.Core.Path.{ap}
 use lib.IntN.{pos}
-use lib.Signed.{leZ}
+use lib.Signed.{ltZ}
 use mir.Syntax.{w32}
 use mir.ValLaws.{toZ-ofZ}
-use Rattle.change_lists.proofs.Signs.{at-least-zero}
 use Rattle.change_lists.proofs.begins.Statement.{statement}
 use Rattle.change_lists.proofs.begins.Tie as tie
 
 returns : tie.Need-returns
-returns c = ap (leZ (pos 0)) (toZ-ofZ w32 (c .args .change) (c .fits .change)) ∙ at-least-zero (c .args .change)
+returns c = ap (ltZ (pos 0)) (toZ-ofZ w32 (c .args .change) (c .fits .change))
 
 pub begins-spec : {M : Type 1} → statement M
 begins-spec = tie.close (tie.spec returns)
