@@ -84,6 +84,16 @@ count-none zero X h = refl
 count-none (suc n) X h = rw (h n (omega arith), count-none n X (λ p l. h p (omega arith)))
 
 -- one member
+-- those in the set and those out of it
+pub count-not : (n : ℕ) (X : Set) → count n X + count n (λ p. not (X p)) ≡ n
+unfolding count
+count-not zero X = refl
+count-not (suc n) X = omega (arith, one (X n), count-not n X)
+  where
+    one : (b : Bool) → cond b 1 0 + cond (not b) 1 0 ≡ 1
+    one true = refl
+    one false = refl
+
 pub count-only : (n i : ℕ) → i < n → count n (λ p. eqb p i) ≡ 1
 unfolding count
 count-only zero i l = absurd (omega arith)

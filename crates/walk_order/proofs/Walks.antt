@@ -13,11 +13,11 @@ use Rattle.simulation.proofs.Sets.{count-le}
 use Rattle.simulation.proofs.Ordered.{elem-append}
 use Rattle.bits.specs.Word.{members}
 use Rattle.bits.proofs.Words.{zero-members}
-use Rattle.simulation.proofs.Loops.{count-none, count-also}
+use Rattle.simulation.proofs.Loops.{count-none, count-not, count-also}
 use Rattle.session.specs.Layout.{table, section}
 use Rattle.session.specs.Trigger.{linked}
 use Rattle.listing.specs.Order.{fold, visit, order}
-use Rattle.walk_order.specs.Walks.{linkedBy, Holds, Counted, Written, Ready, Visited, rest}
+use Rattle.walk_order.specs.Walks.{linkedBy, Holds, Counted, unvisited, Written, Ready, Visited, rest}
 use Rattle.walk_order.specs.declared.Walk.{Walk}
 use Rattle.listing.proofs.Orders.{along, follow, numbers, visit-old, visit-new}
 
@@ -56,6 +56,10 @@ module _ (n state : ℕ) (w : Walk) (r : Ready n state w) where
   ready-room =
       let X = members (w .visited) in
       omega (arith, count-also n X state (r .inside) (r .unseen), count-le n (also X state))
+
+-- the states written and those not yet visited are all
+unvisited-rest : (n : ℕ) (w : Walk) → Counted n w → w .len + unvisited n w ≡ n
+unvisited-rest n w e = ap (λ (k : ℕ). k + unvisited n w) e ∙ count-not n (members (w .visited))
 
 -- ---- along the links of a state
 
@@ -114,6 +118,13 @@ module _ (links : List ℕ) (state : ℕ) (w₀ w : Walk) (i : ℕ) (m : i < len
         let k = g .holds xs depth h l in
         rw (fold-next i step xs, e) (v .holds (fold i step xs) depth k (omega arith));
   }
+
+-- along the links fewer states are unvisited than before the visit
+pub along-falls : (links : List ℕ) (state : ℕ) (w w₀ w' : Walk) (i : ℕ) → Ready (length links) state w → Written state w w₀
+    → Along links state w₀ w' i → unvisited (length links) w' < unvisited (length links) w
+along-falls links state w w₀ w' i r e g =
+    let n = length links in
+    omega (arith, e .long, g .longer, unvisited-rest n w (r .counted), unvisited-rest n w' (g .counted))
 
 -- past the last link the state is visited
 pub along-end : (links : List ℕ) (state : ℕ) (w w₀ w' : Walk) (i : ℕ) → Ready (length links) state w → Written state w w₀

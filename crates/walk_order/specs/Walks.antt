@@ -1,7 +1,7 @@
 -- The depth-first walk as the code has it.
 use Prim.Native.Nat.{ℕ, _+_, _<_, _≤_}
 use mathlib.Core.Path.{_≡_}
-use mathlib.Core.Bool.{false, cond}
+use mathlib.Core.Bool.{false, not, cond}
 use mathlib.Core.List.{List, [], _∷_, _++_, map}
 use lib.ListN.{length}
 use Rattle.simulation.specs.Sets.{also, count}
@@ -25,6 +25,10 @@ pub record Holds (xs : List ℕ) (w : Walk) : Type 0 where
 -- as many are written as were visited of the states below n
 abbrev pub Counted : ℕ → Walk → Type 0
 Counted n w = w .len ≡ count n (members (w .visited))
+
+-- how many of the states below n are not yet visited: the number that falls with each visit inside a visit
+abbrev pub unvisited : ℕ → Walk → ℕ
+unvisited n w = count n (λ u. not (members (w .visited) u))
 
 -- one state more
 pub record Written (state : ℕ) (w w' : Walk) : Type 0 where

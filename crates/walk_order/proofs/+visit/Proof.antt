@@ -1,5 +1,5 @@
 -- `visit` meets its contract. The loop's invariant: the walk holds what i links of the state make of its list. The number that falls
--- with each call is that of the places left.
+-- with each call is that of the states not yet visited.
 use Prim.Native.Nat.{ℕ, _-_, _<_}
 use native.Mathlib.Omega.{arith}
 use mathlib.Core.Path.{sym, _∙_}
@@ -10,12 +10,14 @@ use borrow.Author.Tests.{not-true, not-false}
 use borrow.Fn.Kinds.{In}
 use borrow.Fn.PlainCycle.{Measures, is, falls, and}
 use Rattle.bits.proofs.has.Reads as has-reads
+use Rattle.walk_order.specs.Walks.{unvisited}
 use Rattle.walk_order.proofs.Walks.{
   Along,
   along-start,
   along-none,
   along-old,
   along-new,
+  along-falls,
   along-end,
   written-counted,
   ready-room,
@@ -28,7 +30,7 @@ use Rattle.walk_order.proofs.+visit.{statement}
 use Rattle.walk_order.proofs.+visit.Tie.{close}
 
 abbrev μ-visit : Measures 1 visit-kinds.ps ℕ
-μ-visit κs a = length (a .0 .now) - a .1 .1 .0 .len
+μ-visit κs a = unvisited (length (a .0 .now)) (a .1 .1 .0)
 
 abbrev visit-at : ℕ → In 1 visit-kinds.ps
 visit-at t = and 1 visit-kinds.ps (is 1 visit-kinds.ps μ-visit t) visit.Pre
@@ -84,7 +86,7 @@ visit-visit-requires t c κs =
     let g = h .before .loop .inv in
     let s = h .before .before .before .before .before in
     let r = s .pre .1 in (
-      omega (arith, ready-room _ _ _ r),
+      rw (← s .pre .0) (along-falls _ _ _ _ _ _ r (h .before .before .written .ensures) g),
       record {
         inside = h .loop-test .taken;
         few = r .few;
