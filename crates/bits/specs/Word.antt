@@ -22,5 +22,5 @@ unfoldable pub within : ℕ → ℕ → ℕ → Bool
 within k a b = allBelow k (λ i. not (members a i) || members b i)
 
 -- a and b have a member in common
-abbrev pub meets : ℕ → ℕ → Bool
-meets a b = anyBelow 32 (λ i. members a i && members b i)
+abbrev pub overlaps : ℕ → ℕ → Bool
+overlaps a b = anyBelow 32 (λ i. members a i && members b i)

@@ -6,7 +6,7 @@ ghost use lib.Bits.{bitAnd};
 ghost use lib.Dec.{ltb, eqb};
 ghost use lib.ListN.{length, getD};
 ghost use Rattle.simulation.specs.Sets.{also, without, union, minus, anyBelow, count};
-ghost use Rattle.bits.specs.Word.{members, within, meets};
+ghost use Rattle.bits.specs.Word.{members, within, overlaps};
 ghost use Rattle.bits.specs.Word.{members, within};
 
 // Whether i is a member.
@@ -71,7 +71,7 @@ pub fn subset(a: u32, b: u32) -> bool
 
 // Whether a and b have a member in common.
 pub fn meet(a: u32, b: u32) -> bool
-    ensures { λ r. ⌜ r ≡ meets a b ⌝ }
+    ensures { λ r. ⌜ r ≡ overlaps a b ⌝ }
 {
     a & b != 0
 }

@@ -14,7 +14,7 @@ use borrow.Author.Tests.{eqb-true, eqb-false, eq-eqb, leb-true, le-leb}
 use Rattle.simulation.specs.Sets.{Set, anyBelow}
 use Rattle.simulation.proofs.Sets.{clash, split, same, refuted, and-make, and-l, and-r, or-l, or-r, or-take, any-make, any-take}
 use Rattle.simulation.proofs.Search.{lt-or-le}
-use Rattle.edge_indexes.specs.Indexes.{last, endsAt, Indexed, precedes}
+use Rattle.edge_indexes.specs.Indexes.{last, endsAt, Indexed, predecessors}
 
 -- ---- one more than the last index
 
@@ -194,8 +194,8 @@ module _ (es : List ℕ) (v : ℕ) where
       start : ℕ
       start = getD es k 0 / 512
 
-  pub called-all : (w : ℕ) → called es v 0 w ≡ precedes es v w
-  unfolding called precedes
+  pub called-all : (w : ℕ) → called es v 0 w ≡ predecessors es v w
+  unfolding called predecessors
   called-all w =
       ap (anyBelow (length es))
       (fun-ext (λ k. ap (λ (b : Bool). b && (endsAt es v k && eqb (getD es k 0 / 512) w)) (le-leb 0 k zero-le)))

@@ -31,9 +31,9 @@ pub record Indexed (es heads nexts : List ℕ) : Type 0 where
   pub head : (v : ℕ) → v < maxNodes → getD heads v 0 ≡ last (endsAt es v) (length es)
   pub next : (k : ℕ) → k < length es → getD nexts k 0 ≡ last (endsAt es (getD es k 0 % maxNodes)) k
 
--- w has an edge to v
-unfoldable pub precedes : List ℕ → ℕ → Set
-precedes es v w = anyBelow (length es) (λ k. endsAt es v k && eqb (getD es k 0 / maxNodes) w)
+-- the predecessors of v: each w with an edge to v
+unfoldable pub predecessors : List ℕ → ℕ → Set
+predecessors es v w = anyBelow (length es) (λ k. endsAt es v k && eqb (getD es k 0 / maxNodes) w)
 
 -- ---- the index of outgoing edges
 

@@ -24,9 +24,9 @@ use Rattle.session.specs.Limits.{maxNodes}
 use Rattle.links.specs.Links.{linksTo}
 use Rattle.pair_tables.specs.Tables.{marked}
 use Rattle.worklist.specs.Waiting.{waits}
-use Rattle.edge_indexes.specs.Indexes.{precedes}
+use Rattle.edge_indexes.specs.Indexes.{predecessors}
 use Rattle.refinement.specs.Refining.{Sound, patternOf, tabled}
-use Rattle.refinement.proofs.Settling.{fewer, joins-precedes, precedes-joins}
+use Rattle.refinement.proofs.Settling.{fewer, joins-predecessors, predecessors-joins}
 use Rattle.growth.specs.Growth.{Spread, Grown}
 
 -- what holds before each look, where v is the lowest node that waits
@@ -68,7 +68,7 @@ module _ (nodes : ℕ) (links es : List ℕ) (sound : Sound nodes links es) (fs 
   module _ (ts ws : List ℕ) (v : ℕ) (ts' ws' : List ℕ) (spread : Spread links es fs ts ws v ts' ws') where
     -- what is gained
     abbrev gained : ℕ → ℕ → Bool
-    gained u w = precedes es v w && (marked fs u w && linksTo links (getD ts v 0) u)
+    gained u w = predecessors es v w && (marked fs u w && linksTo links (getD ts v 0) u)
 
     stays : (u w : ℕ) → marked ts u w ≡ true → marked ts' u w ≡ true
     stays u w h = spread .words u w ∙ or-l (gained u w) h
@@ -78,7 +78,7 @@ module _ (nodes : ℕ) (links es : List ℕ) (sound : Sound nodes links es) (fs 
 
     gained-fresh : (u w : ℕ) → gained u w ≡ true → marked fs u w ≡ true
     gained-fresh u w h =
-        and-l (marked fs u w) (linksTo links (getD ts v 0) u) (and-r (precedes es v w) (marked fs u w && linksTo links (getD ts v 0) u) h)
+        and-l (marked fs u w) (linksTo links (getD ts v 0) u) (and-r (predecessors es v w) (marked fs u w && linksTo links (getD ts v 0) u) h)
 
     fresh-still : ((u w : ℕ) → marked ts u w ≡ true → marked fs u w ≡ true) → (u w : ℕ) → marked ts' u w ≡ true → marked fs u w ≡ true
     fresh-still old u w h = ⊎-elim (old u w) (gained-fresh u w) (was u w h)
@@ -88,11 +88,11 @@ module _ (nodes : ℕ) (links es : List ℕ) (sound : Sound nodes links es) (fs 
         → (joins maxNodes es w v ≡ true) × ((o : ℕ) × (members (getD links u 0) o ≡ true) × (marked ts o v ≡ true))
     gained-reaches u w h =
         let rest = marked fs u w && linksTo links (getD ts v 0) u in
-        let l = and-r (marked fs u w) (linksTo links (getD ts v 0) u) (and-r (precedes es v w) rest h) in
+        let l = and-r (marked fs u w) (linksTo links (getD ts v 0) u) (and-r (predecessors es v w) rest h) in
         let test : Set = λ o. members (getD links u 0) o && members (getD ts v 0) o in
         let r = any-take 32 test (and-r (ltb u n) (anyBelow 32 test) l) in
         let o = r .0 in (
-          precedes-joins nodes links es sound w v (and-l (precedes es v w) rest h),
+          predecessors-joins nodes links es sound w v (and-l (predecessors es v w) rest h),
           (
             o,
             and-l (members (getD links u 0) o) (members (getD ts v 0) o) (r .2),
@@ -103,7 +103,7 @@ module _ (nodes : ℕ) (links es : List ℕ) (sound : Sound nodes links es) (fs 
     gained-make : (u w o : ℕ) → joins maxNodes es w v ≡ true → marked fs u w ≡ true → u < length links → o < length links
         → members (getD links u 0) o ≡ true → marked ts o v ≡ true → gained u w ≡ true
     gained-make u w o j f l m d h =
-        and-make (joins-precedes nodes links es sound w v j)
+        and-make (joins-predecessors nodes links es sound w v j)
         (and-make f
         (and-make (lt-ltb u n l)
         (any-make 32 (λ o. members (getD links u 0) o && members (getD ts v 0) o) o (omega (arith, sound .few-states)) (and-make d h))))

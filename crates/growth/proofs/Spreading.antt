@@ -22,13 +22,13 @@ use Rattle.worklist.specs.Waiting.{waits}
 use Rattle.edge_indexes.specs.Indexes.{Indexed}
 use Rattle.refinement.specs.Refining.{Sound}
 use Rattle.edge_indexes.proofs.Incoming.{Chained, chained-head, chained-next, called, called-head, called-next, called-all}
-use Rattle.growth.specs.Growth.{Tried, Spread}
+use Rattle.growth.specs.Growth.{TriedAt, Spread}
 
 -- ---- a node that gains states
 
 module _ (ts ws : List ℕ) (v more wider : ℕ) (wide : members wider ≡ union (members (getD ts v 0)) (members more)) where
   pub tried-more : {ws' : List ℕ} → v < length ts → length ws' ≡ length ws → (wider ≡ getD ts v 0 → ⊥) → waits ws' ≡ also (waits ws) v
-      → Tried ts ws v more (set ts v wider) ws'
+      → TriedAt ts ws v more (set ts v wider) ws'
   tried-more {ws'} l long ne e =
       record {
         table-long = length-set ts v wider;
@@ -52,7 +52,7 @@ module _ (ts ws : List ℕ) (v more wider : ℕ) (wide : members wider ≡ union
           rw (t, getD-set-other ts v w wider 0 (eqb-false w v t), eq-eqb (getD ts w 0) (getD ts w 0) refl) refl)
           (split (eqb w v))
 
-  pub tried-none : wider ≡ getD ts v 0 → Tried ts ws v more ts ws
+  pub tried-none : wider ≡ getD ts v 0 → TriedAt ts ws v more ts ws
   tried-none e =
       record {
         table-long = refl;
@@ -89,7 +89,7 @@ module _ {es heads nexts : List ℕ} (x : Indexed es heads nexts) (fs : List ℕ
     abbrev start : ℕ
     start = getD es (n - 1) 0 / 512
 
-    pub spreading-more : {ts'' ws'' : List ℕ} → Tried ts' ws' (getD es (n - 1) 0 / 512) (bitAnd able (getD fs (getD es (n - 1) 0 / 512) 0)) ts'' ws''
+    pub spreading-more : {ts'' ws'' : List ℕ} → TriedAt ts' ws' (getD es (n - 1) 0 / 512) (bitAnd able (getD fs (getD es (n - 1) 0 / 512) 0)) ts'' ws''
         → Spreading es fs v able ts ws ts'' ws'' (getD nexts (n - 1) 0)
     spreading-more {ts''} {ws''} t =
         record {

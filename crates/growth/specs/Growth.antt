@@ -13,11 +13,11 @@ use Rattle.session.specs.Limits.{maxNodes}
 use Rattle.links.specs.Links.{linksTo}
 use Rattle.pair_tables.specs.Tables.{marked}
 use Rattle.worklist.specs.Waiting.{waits}
-use Rattle.edge_indexes.specs.Indexes.{precedes}
+use Rattle.edge_indexes.specs.Indexes.{predecessors}
 use Rattle.refinement.specs.Refining.{patternOf, tabled}
 
 -- the states of a word are tried at the node v, which waits where it gains one
-pub record Tried (ts ws : List ℕ) (v more : ℕ) (ts' ws' : List ℕ) : Type 0 where
+pub record TriedAt (ts ws : List ℕ) (v more : ℕ) (ts' ws' : List ℕ) : Type 0 where
   pub table-long : length ts' ≡ length ts
   pub waits-long : length ws' ≡ length ws
   pub words : (u w : ℕ) → marked ts' u w ≡ (marked ts u w || (eqb w v && members more u))
@@ -27,7 +27,7 @@ pub record Tried (ts ws : List ℕ) (v more : ℕ) (ts' ws' : List ℕ) : Type 0
 pub record Spread (links es fs ts ws : List ℕ) (v : ℕ) (ts' ws' : List ℕ) : Type 0 where
   pub table-long : length ts' ≡ length ts
   pub waits-long : length ws' ≡ length ws
-  pub words : (u w : ℕ) → marked ts' u w ≡ (marked ts u w || (precedes es v w && (marked fs u w && linksTo links (getD ts v 0) u)))
+  pub words : (u w : ℕ) → marked ts' u w ≡ (marked ts u w || (predecessors es v w && (marked fs u w && linksTo links (getD ts v 0) u)))
   pub waiting : (w : ℕ) → waits ws' w ≡ (without (waits ws) v w || not (eqb (getD ts' w 0) (getD ts w 0)))
 
 -- the trial set: the least set of fresh pairs that has the seeds and each pair with a link and an edge to one of it

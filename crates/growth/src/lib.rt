@@ -9,7 +9,7 @@ ghost use Rattle.worklist.specs.Waiting.{waits};
 ghost use Rattle.links.specs.Links.{Callers};
 ghost use Rattle.edge_indexes.specs.Indexes.{Indexed};
 ghost use Rattle.refinement.specs.Refining.{Sound};
-ghost use Rattle.growth.specs.Growth.{Tried, Spread, Grown};
+ghost use Rattle.growth.specs.Growth.{TriedAt, Spread, Grown};
 use links::CALLERS;
 use links::calling;
 use links::index_callers;
@@ -20,7 +20,7 @@ use worklist::take_out;
 // Tries more states at a node. It waits where it gains one, for its predecessors may gain by it.
 pub fn try_at(trials: &mut [u32], waiting: &mut [u32], node: usize, more: u32)
     requires { ⌜ (length (now trials) ≡ maxNodes) × (length (now waiting) ≡ 16) × (node < maxNodes) ⌝ }
-    ensures { λ r. ⌜ Tried (now (trials .entry)) (now (waiting .entry)) node more (now (trials .exit)) (now (waiting .exit)) ⌝ }
+    ensures { λ r. ⌜ TriedAt (now (trials .entry)) (now (waiting .entry)) node more (now (trials .exit)) (now (waiting .exit)) ⌝ }
 {
     let word = trials[node];
     let wider = bits::united(word, more);

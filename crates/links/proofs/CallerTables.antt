@@ -11,7 +11,7 @@ use lib.Seq.{getD-set-same, getD-set-other}
 use borrow.Author.Tests.{le-ltb, eqb-true, eqb-false, eq-eqb}
 use Rattle.simulation.specs.Sets.{Set, also, without}
 use Rattle.simulation.proofs.Sets.{split, same, and-make, and-l, and-r, any-make, any-take}
-use Rattle.bits.specs.Word.{members, meets}
+use Rattle.bits.specs.Word.{members, overlaps}
 use Rattle.bits.proofs.Words.{zero-members}
 use Rattle.pair_tables.specs.Tables.{marked}
 use Rattle.links.specs.Links.{linkedFrom, linksTo, Callers}
@@ -104,9 +104,9 @@ callers-linked links callers c w = fun-ext (λ u. same (linkedFrom callers w u) 
 
     back : (u : ℕ) → linksTo links w u ≡ true → linkedFrom callers w u ≡ true
     back u h =
-        let r = any-take 32 (links-at u) (and-r (ltb u (length links)) (meets (getD links u 0) w) h) in
+        let r = any-take 32 (links-at u) (and-r (ltb u (length links)) (overlaps (getD links u 0) w) h) in
         let o = r .0 in
         any-make (length callers) (calls u) o (omega (arith, r .1, c .long))
         (and-make (and-r (members (getD links u 0) o) (members w o) (r .2))
         (c .called o u (r .1)
-        ∙ and-make (and-l (ltb u (length links)) (meets (getD links u 0) w) h) (and-l (members (getD links u 0) o) (members w o) (r .2))))
+        ∙ and-make (and-l (ltb u (length links)) (overlaps (getD links u 0) w) h) (and-l (members (getD links u 0) o) (members w o) (r .2))))

@@ -11,7 +11,7 @@ use lib.Bits.{bitOr}
 use Rattle.simulation.specs.Sets.{Set, none, also, without, minus}
 use Rattle.simulation.proofs.Sets.{clash, split, same, refuted, and-make, and-l, and-r, or-l, or-r, or-take, not-make, any-make, any-take}
 use Rattle.simulation.proofs.Edges.{any-same}
-use Rattle.bits.specs.Word.{members, meets}
+use Rattle.bits.specs.Word.{members, overlaps}
 use Rattle.bits.proofs.Words.{zero-members, or-members}
 use Rattle.links.specs.Links.{linkedFrom, linksTo}
 use Rattle.simulation.proofs.Gains.{gained-none, gained-more, gained-pass}
@@ -20,7 +20,7 @@ use Rattle.simulation.proofs.Gains.{gained-none, gained-more, gained-pass}
 
 module _ (links : List ℕ) (word : ℕ) where
   abbrev touches : Set
-  touches u = meets (getD links u 0) word
+  touches u = overlaps (getD links u 0) word
 
   abbrev pub linkedTo : ℕ → Set
   linkedTo u x = ltb x u && touches x
@@ -29,17 +29,17 @@ module _ (links : List ℕ) (word : ℕ) where
   linked-none = fun-ext zero-members ∙ gained-none none touches
 
   module _ (u all : ℕ) (e : members all ≡ linkedTo u) where
-    pub linked-more : (all' : ℕ) → meets (getD links u 0) word ≡ true → members all' ≡ also (members all) u → members all' ≡ linkedTo (u + 1)
+    pub linked-more : (all' : ℕ) → overlaps (getD links u 0) word ≡ true → members all' ≡ also (members all) u → members all' ≡ linkedTo (u + 1)
     linked-more all' some m = gained-more none touches u e some m
 
-    pub linked-pass : meets (getD links u 0) word ≡ false → members all ≡ linkedTo (u + 1)
+    pub linked-pass : overlaps (getD links u 0) word ≡ false → members all ≡ linkedTo (u + 1)
     linked-pass fails = gained-pass none touches u e fails
 
-pub links-none : (links : List ℕ) (u : ℕ) → (ltb u (length links) && meets (getD links u 0) 0) ≡ false
+pub links-none : (links : List ℕ) (u : ℕ) → (ltb u (length links) && overlaps (getD links u 0) 0) ≡ false
 links-none links u =
-    refuted (ltb u (length links) && meets (getD links u 0) 0)
+    refuted (ltb u (length links) && overlaps (getD links u 0) 0)
     (λ h.
-    let r = any-take 32 (λ o. members (getD links u 0) o && members 0 o) (and-r (ltb u (length links)) (meets (getD links u 0) 0) h) in
+    let r = any-take 32 (λ o. members (getD links u 0) o && members 0 o) (and-r (ltb u (length links)) (overlaps (getD links u 0) 0) h) in
     clash (and-r (members (getD links u 0) (r .0)) (members 0 (r .0)) (r .2)) (zero-members (r .0)))
 
 -- ---- the states to which a state of a word has a link: `rest` is what is left of the word, and `all` has the links of the others
@@ -166,7 +166,7 @@ module _ (links : List ℕ) (word others : ℕ) where
     inside : ltb u (length links) ≡ true
     inside = lt-ltb u (length links) (r .small u m)
 
-    pub thinned-out : meets (getD links u 0) others ≡ true → (left' : ℕ) → members left' ≡ without (members left) u → Thinned left' rest'
+    pub thinned-out : overlaps (getD links u 0) others ≡ true → (left' : ℕ) → members left' ≡ without (members left) u → Thinned left' rest'
     thinned-out some left' out =
         record {
           small = fewer-small;
@@ -178,7 +178,7 @@ module _ (links : List ℕ) (word others : ℕ) where
               (split (eqb x u));
         }
 
-    pub thinned-pass : meets (getD links u 0) others ≡ false → Thinned left rest'
+    pub thinned-pass : overlaps (getD links u 0) others ≡ false → Thinned left rest'
     thinned-pass none =
         record {
           small = fewer-small;

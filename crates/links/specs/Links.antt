@@ -6,7 +6,7 @@ use mathlib.Core.List.{List}
 use lib.Dec.{ltb}
 use lib.ListN.{length, getD}
 use Rattle.simulation.specs.Sets.{Set, anyBelow}
-use Rattle.bits.specs.Word.{members, meets}
+use Rattle.bits.specs.Word.{members, overlaps}
 
 -- the states to which a state of the word w has a link
 abbrev pub linkedFrom : List ℕ → ℕ → Set
@@ -14,7 +14,7 @@ linkedFrom links w o = anyBelow (length links) (λ u. members w u && members (ge
 
 -- the states with a link to a state of the word w
 abbrev pub linksTo : List ℕ → ℕ → Set
-linksTo links w u = ltb u (length links) && meets (getD links u 0) w
+linksTo links w u = ltb u (length links) && overlaps (getD links u 0) w
 
 -- for each state the states with a link to it
 pub record Callers (links callers : List ℕ) : Type 0 where

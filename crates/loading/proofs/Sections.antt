@@ -8,8 +8,7 @@ use lib.ListN.{length, set, take, drop, length-append, length-take, length-drop}
 use lib.Seq.{drop-at}
 use borrow.Rule.Slice.PartMut.{putMid}
 use Rattle.session.specs.Limits.{fixedSize}
-use Rattle.session.specs.Layout.{table, section, markWord, image}
-use Rattle.session.specs.Tests.{numbered}
+use Rattle.session.specs.Layout.{numbered, section, image}
 use Rattle.session.proofs.Tables.{length-section, length-table}
 use Rattle.session.proofs.Stores.{front, image-front, no-marks, write-counts, put-section}
 use Rattle.promises.specs.Rules.{Given, givenTrigger, givenGraph}
@@ -30,7 +29,7 @@ front-given : (x : Given)
     ++ section 512 (x .samples))
     ++ section 2048 (numbered (x .starts) (x .ends)))
     ≡ front (givenTrigger x) (givenGraph x)
-unfolding front numbered
+unfolding front
 front-given x =
     ap
     (λ (e : ℕ).

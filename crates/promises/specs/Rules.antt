@@ -6,8 +6,8 @@ use lib.Dec.{ltb, leb, eqb}
 use lib.ListN.{length, getD}
 use Rattle.simulation.specs.Sets.{allBelow}
 use Rattle.session.specs.Limits.{maxStates, maxNodes, maxEdges, maxChanges, fixedSize}
-use Rattle.session.specs.Trigger.{Trigger, Graph, states, nodes, edgeNumber, edge, withEdge, withoutEdge}
-use Rattle.session.specs.Layout.{table, below, triggerOf, graphOf, inLayout}
+use Rattle.session.specs.Trigger.{Trigger, Graph, states, nodes, edge, withEdge, withoutEdge}
+use Rattle.session.specs.Layout.{numbered, below, triggerOf, graphOf, inLayout}
 
 pub record Rule : Type 0 where
   pub number : ℕ
@@ -38,10 +38,7 @@ abbrev pub givenTrigger : Given → Trigger
 givenTrigger x = record { masks = x .masks; values = x .values; links = x .links }
 
 abbrev pub givenGraph : Given → Graph
-givenGraph x = record {
-  samples = x .samples;
-  edges = table (length (x .starts)) (λ k. edgeNumber (getD (x .starts) k 0) (getD (x .ends) k 0));
-}
+givenGraph x = record { samples = x .samples; edges = numbered (x .starts) (x .ends) }
 
 -- "in ascending order (start, then end)"
 abbrev pub precedes : ℕ → ℕ → ℕ → ℕ → Bool

@@ -23,13 +23,13 @@ use Rattle.simulation.proofs.Loops.{without-falls}
 use Rattle.simulation.proofs.Search.{found-make, found-take, first-at, first-before}
 use Rattle.simulation.proofs.Ordered.{Rising, rising-take, elem-at, elem-index}
 use Rattle.simulation.proofs.Edges.{all-same, elem-joins, joins-elem, from-le, from-mono, supported-edges}
-use Rattle.bits.specs.Word.{members, meets}
+use Rattle.bits.specs.Word.{members, overlaps}
 use Rattle.bits.proofs.Words.{same-below, lt-pow}
 use Rattle.session.specs.Limits.{maxNodes}
 use Rattle.pair_tables.specs.Tables.{marked}
 use Rattle.links.specs.Links.{linksTo}
 use Rattle.refinement.specs.Refining.{carried, whole, keptOf, Sound, Turned, patternOf, tabled, Refining, Settled}
-use Rattle.edge_indexes.specs.Indexes.{edgesFrom, endsAt, precedes}
+use Rattle.edge_indexes.specs.Indexes.{edgesFrom, endsAt, predecessors}
 use Rattle.worklist.specs.Waiting.{waits}
 
 -- ---- the edges from a node
@@ -114,9 +114,9 @@ module _ (nodes : ℕ) (links es : List ℕ) (sound : Sound nodes links es) wher
   ends-inside e h = let w = elem-index e es h in rw (← w .2) (sound .ends (w .0) (w .1))
 
   -- an edge from w to v is seen by v
-  pub joins-precedes : (w v : ℕ) → joins maxNodes es w v ≡ true → precedes es v w ≡ true
-  unfolding precedes
-  joins-precedes w v h =
+  pub joins-predecessors : (w v : ℕ) → joins maxNodes es w v ≡ true → predecessors es v w ≡ true
+  unfolding predecessors
+  joins-predecessors w v h =
       let j = elem-joins maxNodes es w v h in
       let i = elem-index (w * maxNodes + v) es (j .1) in
       let k = i .0 in
@@ -125,9 +125,9 @@ module _ (nodes : ℕ) (links es : List ℕ) (sound : Sound nodes links es) wher
       any-make (length es) (λ k. endsAt es v k && eqb (getD es k 0 / maxNodes) w) k (i .1)
       (and-make (eq-eqb (getD es k 0 % maxNodes) v at-end) (eq-eqb (getD es k 0 / maxNodes) w at-start))
 
-  pub precedes-joins : (w v : ℕ) → precedes es v w ≡ true → joins maxNodes es w v ≡ true
-  unfolding precedes
-  precedes-joins w v h =
+  pub predecessors-joins : (w v : ℕ) → predecessors es v w ≡ true → joins maxNodes es w v ≡ true
+  unfolding predecessors
+  predecessors-joins w v h =
       let r = any-take (length es) (λ k. endsAt es v k && eqb (getD es k 0 / maxNodes) w) h in
       let k = r .0 in
       let e = getD es k 0 in
@@ -241,7 +241,7 @@ module _ (nodes : ℕ) (links es : List ℕ) (sound : Sound nodes links es) wher
           (λ h.
           let r = any-take 32 (λ u. members (getD ts' w 0) u && linksTo links (turned .gone) u) h in
           let u = r .0 in
-          let touches = and-r (ltb u n) (meets (getD links u 0) (turned .gone)) (and-r (members (getD ts' w 0) u) (linksTo links (turned .gone) u) (r .2)) in
+          let touches = and-r (ltb u n) (overlaps (getD links u 0) (turned .gone)) (and-r (members (getD ts' w 0) u) (linksTo links (turned .gone) u) (r .2)) in
           let i = any-take 32 (λ o. members (getD links u 0) o && members (turned .gone) o) touches in
           let o = i .0 in
           let lost : (members (getD ts v 0) o && not (members (getD ts' v 0) o)) ≡ true =
@@ -252,7 +252,7 @@ module _ (nodes : ℕ) (links es : List ℕ) (sound : Sound nodes links es) wher
 
       -- a carrier of a pair that is left: it is settled, or left, or else the pair's node is called in
       carrier-left : (p o q : ℕ) → In (T ts') p → o < n → members (getD links (p % n) 0) o ≡ true → q % n ≡ o
-          → joins maxNodes es (p / n) (q / n) ≡ true → In (union S (T ts)) q → (precedes es v (p / n) && shaken (p / n)) ≡ false → In (union S (T ts')) q
+          → joins maxNodes es (p / n) (q / n) ≡ true → In (union S (T ts)) q → (predecessors es v (p / n) && shaken (p / n)) ≡ false → In (union S (T ts')) q
       unfolding shaken
       carrier-left p o q held small link at-o edge old apart =
           ⊎-elim (λ h. or-l (T ts' q) h)
@@ -271,14 +271,14 @@ module _ (nodes : ℕ) (links es : List ℕ) (sound : Sound nodes links es) wher
           (any-make 32 (λ i. members (getD links u 0) i && members (turned .gone) i) o (omega (arith, sound .few-states)) (and-make link lost)) in
           let called : shaken (p / n) ≡ true =
           any-make 32 (λ x. members (getD ts' (p / n) 0) x && linksTo links (turned .gone) x) u (omega (arith, sound .few-states)) (and-make held touches) in
-          clash (and-make (joins-precedes (p / n) v (subst (λ (x : ℕ). joins maxNodes es (p / n) x ≡ true) e edge)) called) apart)
+          clash (and-make (joins-predecessors (p / n) v (subst (λ (x : ℕ). joins maxNodes es (p / n) x ≡ true) e edge)) called) apart)
           (split (T ts' q)))
           (λ (e : q / n ≡ v → ⊥). or-r (S q) (left-away q e ∙ h))
           (at-v-or q))
           (or-take (S q) (T ts q) old)
 
       -- a pair that is left and was supported is supported still, unless its node is called in
-      unmoved : (p : ℕ) → In (T ts') p → (precedes es v (p / n) && shaken (p / n)) ≡ false → In (supported s (union S (T ts))) p
+      unmoved : (p : ℕ) → In (T ts') p → (predecessors es v (p / n) && shaken (p / n)) ≡ false → In (supported s (union S (T ts))) p
           → In (supported s (union S (T ts'))) p
       unmoved p held apart h =
           supported-make s (union S (T ts')) p
@@ -298,10 +298,10 @@ module _ (nodes : ℕ) (links es : List ℕ) (sound : Sound nodes links es) wher
       turn-supports : Supports ts ws → Supports ts' ws'
       unfolding shaken
       turn-supports sup p l h idle =
-          let now : waits ws' (p / n) ≡ (without (waits ws) v (p / n) || (precedes es v (p / n) && shaken (p / n))) = ap (λ (X : Set). X (p / n)) (turned .waiting) in
-          let both : (without (waits ws) v (p / n) || (precedes es v (p / n) && shaken (p / n))) ≡ false = sym now ∙ idle in
-          let out = refuted (without (waits ws) v (p / n)) (λ k. clash (or-l (precedes es v (p / n) && shaken (p / n)) k) both) in
-          let apart = refuted (precedes es v (p / n) && shaken (p / n)) (λ k. clash (or-r (without (waits ws) v (p / n)) k) both) in
+          let now : waits ws' (p / n) ≡ (without (waits ws) v (p / n) || (predecessors es v (p / n) && shaken (p / n))) = ap (λ (X : Set). X (p / n)) (turned .waiting) in
+          let both : (without (waits ws) v (p / n) || (predecessors es v (p / n) && shaken (p / n))) ≡ false = sym now ∙ idle in
+          let out = refuted (without (waits ws) v (p / n)) (λ k. clash (or-l (predecessors es v (p / n) && shaken (p / n)) k) both) in
+          let apart = refuted (predecessors es v (p / n) && shaken (p / n)) (λ k. clash (or-r (without (waits ws) v (p / n)) k) both) in
           unmoved p h apart (was-supported sup p l h out)
 
       -- ---- each look has fewer pairs left, or fewer nodes that wait
@@ -346,8 +346,8 @@ module _ (nodes : ℕ) (links es : List ℕ) (sound : Sound nodes links es) wher
           turned .waiting
           ∙ fun-ext
           (λ w.
-          ap (λ (b : Bool). without (waits ws) v w || (precedes es v w && b)) (unshaken c w)
-          ∙ ap (λ (b : Bool). without (waits ws) v w || b) (and-false (precedes es v w))
+          ap (λ (b : Bool). without (waits ws) v w || (predecessors es v w && b)) (unshaken c w)
+          ∙ ap (λ (b : Bool). without (waits ws) v w || b) (and-false (predecessors es v w))
           ∙ or-false (without (waits ws) v w)) in
           let fewer-nodes : count maxNodes (without (waits ws) v) < count maxNodes (waits ws) =
           without-falls maxNodes (waits ws) v (omega (arith, sound .few-nodes)) waiting in

@@ -14,7 +14,7 @@ use Rattle.simulation.specs.Sets.{Set, allBelow, anyBelow, minus}
 use Rattle.simulation.specs.Search.{found}
 use Rattle.simulation.proofs.Sets.{clash, split, same, refuted, and-make, and-l, and-r, or-l, or-r, or-take, not-make, not-take, implies-make, implies-take, any-make, any-take, all-make, all-take}
 use Rattle.simulation.proofs.Search.{found-here, found-on, found-end}
-use Rattle.bits.specs.Word.{members, meets}
+use Rattle.bits.specs.Word.{members, overlaps}
 use Rattle.bits.proofs.Words.{zero-members, same-members, or-members}
 use Rattle.pair_tables.specs.Tables.{marked}
 use Rattle.links.specs.Links.{linkedFrom, linksTo}
@@ -123,13 +123,13 @@ module _ (word : ℕ) (links es ss ts : List ℕ) (missing : ℕ) (lacks : membe
   n = length links
 
   -- a state of the word is whole where none of its links is missing
-  whole-missing : (u : ℕ) → u < n → members word u ≡ true → n ≤ 32 → whole n (getD links u 0) es ss ts ≡ not (meets (getD links u 0) missing)
+  whole-missing : (u : ℕ) → u < n → members word u ≡ true → n ≤ 32 → whole n (getD links u 0) es ss ts ≡ not (overlaps (getD links u 0) missing)
   unfolding whole
   whole-missing u l m few =
-      same (whole n (getD links u 0) es ss ts) (not (meets (getD links u 0) missing))
+      same (whole n (getD links u 0) es ss ts) (not (overlaps (getD links u 0) missing))
       (λ h.
       not-make
-      (refuted (meets (getD links u 0) missing)
+      (refuted (overlaps (getD links u 0) missing)
       (λ k.
       let r = any-take 32 (λ o. members (getD links u 0) o && members missing o) k in
       let o = r .0 in
@@ -153,14 +153,14 @@ module _ (word : ℕ) (links es ss ts : List ℕ) (missing : ℕ) (lacks : membe
       clash
       (any-make 32 (λ i. members (getD links u 0) i && members missing i) o (omega (arith, few, small))
       (and-make link (ap (λ (X : Set). X o) lacks ∙ and-make due (not-make e))))
-      (not-take (meets (getD links u 0) missing) h))
+      (not-take (overlaps (getD links u 0) missing) h))
       (split (carried es ss ts o)))))
 
   pub kept-without : n ≤ 32 → minus (members word) (linksTo links missing) ≡ keptOf word links es ss ts
   kept-without few = fun-ext (λ u. ⊎-elim (λ (m : members word u ≡ true). rw m (there u m)) (λ (m : members word u ≡ false). rw m refl) (split (members word u)))
     where
       there : (u : ℕ) → members word u ≡ true
-          → not (ltb u n && meets (getD links u 0) missing) ≡ (not (ltb u n) || whole n (getD links u 0) es ss ts)
+          → not (ltb u n && overlaps (getD links u 0) missing) ≡ (not (ltb u n) || whole n (getD links u 0) es ss ts)
       there u m =
           ⊎-elim
           (λ (e : ltb u n ≡ true). rw e (sym (whole-missing u (ltb-true u n e) m few)))
@@ -188,7 +188,7 @@ module _ (word : ℕ) (links es ss ts : List ℕ) (missing : ℕ) (lacks : membe
           (λ m.
           whole-missing u l m few
           ∙ not-make
-          (refuted (meets (getD links u 0) missing)
+          (refuted (overlaps (getD links u 0) missing)
           (λ k.
           let r = any-take 32 (λ o. members (getD links u 0) o && members missing o) k in
           clash (and-r (members (getD links u 0) (r .0)) (members missing (r .0)) (r .2))
@@ -211,7 +211,7 @@ module _ (word : ℕ) (links es ss ts : List ℕ) (missing : ℕ) (lacks : membe
           let link = and-r (members word u) (members (getD links u 0) o) (r .2) in
           clash
           (any-make 32 (λ i. members (getD links u 0) i && members missing i) o (omega (arith, few, small)) (and-make link m))
-          (not-take (meets (getD links u 0) missing)
+          (not-take (overlaps (getD links u 0) missing)
           (sym (whole-missing u (r .1) in-word few)
           ∙ implies-take (members word u) (whole n (getD links u 0) es ss ts) (all-take n wholeAt h u (r .1)) in-word)))
           ∙ sym (zero-members o))))

@@ -9,14 +9,14 @@ use lib.ListN.{length, getD, set, length-set}
 use lib.Seq.{getD-set-same, getD-set-other}
 use Rattle.simulation.specs.Sets.{Set, minus, without, anyBelow}
 use Rattle.simulation.proofs.Sets.{clash, refuted, and-none, any-take}
-use Rattle.bits.specs.Word.{members, meets}
+use Rattle.bits.specs.Word.{members, overlaps}
 use Rattle.bits.proofs.Words.{zero-members}
 use Rattle.session.specs.Limits.{maxNodes}
 use Rattle.session.specs.Layout.{below}
 use Rattle.session.proofs.Tables.{below-make}
 use Rattle.links.specs.Links.{linksTo}
 use Rattle.refinement.specs.Refining.{keptOf, Sound, Turned}
-use Rattle.edge_indexes.specs.Indexes.{edgesFrom, precedes}
+use Rattle.edge_indexes.specs.Indexes.{edgesFrom, predecessors}
 use Rattle.worklist.specs.Waiting.{waits}
 use Rattle.links.proofs.LinkSets.{links-none}
 
@@ -41,7 +41,7 @@ module _ (links es ss ts ws : List ℕ) (v : ℕ) (inside : v < length ts) (ws�
   -- pairs were cleared, and the predecessors that hold a state with a link to one that went are called in
   pub turned-cleared : (ws' : List ℕ) (gone shaken : ℕ) → length ws' ≡ length ws → members gone ≡ minus (members (getD ts v 0)) (members left)
       → members shaken ≡ linksTo links gone
-      → waits ws' ≡ (λ w. waits ws₁ w || (precedes es v w && meets (getD (set ts v left) w 0) shaken))
+      → waits ws' ≡ (λ w. waits ws₁ w || (predecessors es v w && overlaps (getD (set ts v left) w 0) shaken))
       → Turned links es ss ts ws v (set ts v left) ws'
   turned-cleared ws' gone shaken long' lost shakes called =
       let here : getD (set ts v left) v 0 ≡ left = getD-set-same ts v left 0 inside in
@@ -55,8 +55,8 @@ module _ (links es ss ts ws : List ℕ) (v : ℕ) (inside : v < length ts) (ws�
         waiting = called
             ∙ fun-ext
             (λ w.
-            ap (λ (X : Set). X w || (precedes es v w && meets (getD (set ts v left) w 0) shaken)) out
-            ∙ ap (λ (Y : Set). without (waits ws) v w || (precedes es v w && anyBelow 32 (λ u. members (getD (set ts v left) w 0) u && Y u))) shakes);
+            ap (λ (X : Set). X w || (predecessors es v w && overlaps (getD (set ts v left) w 0) shaken)) out
+            ∙ ap (λ (Y : Set). without (waits ws) v w || (predecessors es v w && anyBelow 32 (λ u. members (getD (set ts v left) w 0) u && Y u))) shakes);
       }
 
   -- nothing was cleared
@@ -73,8 +73,8 @@ module _ (links es ss ts ws : List ℕ) (v : ℕ) (inside : v < length ts) (ws�
         (λ w.
         sym
         (ap (λ (b : Bool). without (waits ws) v w || b)
-        (ap (λ (X : Set). precedes es v w && anyBelow 32 X) (fun-ext (λ u. and-none (members (getD ts w 0) u) (links-none links u)))
-        ∙ and-none (precedes es v w) (any-none 32))
+        (ap (λ (X : Set). predecessors es v w && anyBelow 32 X) (fun-ext (λ u. and-none (members (getD ts w 0) u) (links-none links u)))
+        ∙ and-none (predecessors es v w) (any-none 32))
         ∙ or-false (without (waits ws) v w)));
   }
     where

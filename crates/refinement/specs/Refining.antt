@@ -14,7 +14,7 @@ use Rattle.bits.specs.Word.{members}
 use Rattle.session.specs.Limits.{maxStates, maxNodes, maxEdges}
 use Rattle.pair_tables.specs.Tables.{marked}
 use Rattle.links.specs.Links.{linkedFrom, linksTo}
-use Rattle.edge_indexes.specs.Indexes.{edgesFrom, precedes}
+use Rattle.edge_indexes.specs.Indexes.{edgesFrom, predecessors}
 use Rattle.worklist.specs.Waiting.{waits}
 
 -- ---- support
@@ -55,7 +55,7 @@ pub record Turned (links es ss ts ws : List ℕ) (v : ℕ) (ts' ws' : List ℕ) 
   pub here : members (getD ts' v 0) ≡ keptOf (getD ts v 0) links (edgesFrom es v) ss ts
   pub gone : ℕ
   pub went : members gone ≡ minus (members (getD ts v 0)) (members (getD ts' v 0))
-  pub waiting : waits ws' ≡ (λ w. without (waits ws) v w || (precedes es v w && anyBelow 32 (λ u. members (getD ts' w 0) u && linksTo links gone u)))
+  pub waiting : waits ws' ≡ (λ w. without (waits ws) v w || (predecessors es v w && anyBelow 32 (λ u. members (getD ts' w 0) u && linksTo links gone u)))
 
 -- links and edges as a pattern, and a table as a set of its pairs
 abbrev pub patternOf : ℕ → List ℕ → List ℕ → Pattern

@@ -5,8 +5,7 @@ ghost use mathlib.Core.List.{[]};
 ghost use Prim.Native.Nat.{_^_, _≤_};
 ghost use lib.ListN.{length};
 ghost use Rattle.session.specs.Limits.{maxNodes, wordBits};
-ghost use Rattle.session.specs.Layout.{section, below};
-ghost use Rattle.session.specs.Tests.{numbered};
+ghost use Rattle.session.specs.Layout.{numbered, section, below};
 
 // The words of a source go to places that are as many.
 pub fn copy_words(place: &mut [u32], source: &[u32])

@@ -15,9 +15,9 @@ use Rattle.simulation.proofs.Sets.{split, all-make, all-take}
 use Rattle.simulation.proofs.Edges.{all-same}
 use Rattle.bits.specs.Word.{members, within}
 use Rattle.bits.proofs.Gathers.{gathers, gathered-below, gathered-zero}
-use Rattle.session.specs.Layout.{table, section, below}
+use Rattle.session.specs.Layout.{table, numbered, section, below}
 use Rattle.session.specs.Trigger.{edgeNumber}
-use Rattle.session.specs.Tests.{fits, numbered}
+use Rattle.session.specs.Tests.{fits}
 
 -- ---- tables: length, entries, and that these decide a table
 
@@ -96,7 +96,6 @@ below-at n xs h some i =
 -- ---- the numbers of edges
 
 pub length-numbered : (starts ends : List ℕ) → length (numbered starts ends) ≡ length starts
-unfolding numbered
 length-numbered starts ends = length-table (length starts) (λ k. edgeNumber (getD starts k 0) (getD ends k 0))
 
 -- ---- a section whose used places hold small numbers, and the others zeros

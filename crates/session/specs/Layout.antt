@@ -20,12 +20,16 @@ use Rattle.session.specs.Limits.{
   marksAt,
   fixedSize,
 }
-use Rattle.session.specs.Trigger.{Trigger, Graph, Marks, states, nodes, admits}
+use Rattle.session.specs.Trigger.{Trigger, Graph, Marks, states, nodes, edgeNumber, admits}
 
 -- f 0, f 1, .. , n numbers in all
 unfoldable pub table : ℕ → (ℕ → ℕ) → List ℕ
 table zero f = []
 table (suc n) f = f 0 ∷ table n (λ i. f (suc i))
+
+-- the numbers of the edges that are given by their starts and ends
+abbrev pub numbered : List ℕ → List ℕ → List ℕ
+numbered starts ends = table (length starts) (λ k. edgeNumber (getD starts k 0) (getD ends k 0))
 
 -- "Unused places inside its fixed size are zero": the entries of xs, then zeros, n places in all
 unfoldable pub section : ℕ → List ℕ → List ℕ

@@ -1,4 +1,4 @@
--- What the parts of the layout test and of a load compute: the inner contracts cite these.
+-- What the parts of the layout test compute: the inner contracts cite these.
 use Prim.Native.Nat.{ℕ, _+_, _-_, _^_, _/_, _%_}
 use mathlib.Core.Bool.{Bool, not, _&&_, _||_, cond}
 use mathlib.Core.List.{List}
@@ -8,8 +8,8 @@ use Rattle.simulation.specs.Sets.{allBelow}
 use Rattle.simulation.specs.Ordered.{ascends}
 use Rattle.bits.specs.Word.{members}
 use Rattle.session.specs.Limits.{maxStates, maxNodes, maxEdges, wordBits, masksAt, valuesAt, linksAt, samplesAt, edgesAt, marksAt}
-use Rattle.session.specs.Trigger.{agrees, edgeNumber}
-use Rattle.session.specs.Layout.{table, part, below}
+use Rattle.session.specs.Trigger.{agrees}
+use Rattle.session.specs.Layout.{part, below}
 
 -- a section: the words before `used` are below 2 ^ k, and those from it on are zero
 unfoldable pub fits : ℕ → ℕ → List ℕ → Bool
@@ -23,10 +23,6 @@ allNamed nodes es = allBelow (length es) (λ k. ltb (getD es k 0 / maxNodes) nod
 unfoldable pub sparse : List ℕ → List ℕ → ℕ → ℕ → ℕ → Bool
 sparse samples marks mask value u =
     allBelow (length marks) (λ v. not (members (getD marks v 0) u) || agrees wordBits mask value (getD samples v 0))
-
--- the numbers of the edges that are given by their starts and ends
-unfoldable pub numbered : List ℕ → List ℕ → List ℕ
-numbered starts ends = table (length starts) (λ k. edgeNumber (getD starts k 0) (getD ends k 0))
 
 -- the layout test of a memory that is long enough, with n states, m nodes and e edges: each section, then what it says of the others
 unfoldable pub triggerTest : List ℕ → ℕ → Bool

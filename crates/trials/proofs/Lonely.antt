@@ -16,7 +16,7 @@ use Rattle.simulation.proofs.System.{closure-seed, closure-least}
 use Rattle.simulation.proofs.Pattern.{state-inside, node-inside, meets-take}
 use Rattle.simulation.proofs.Ordered.{elem-index}
 use Rattle.simulation.proofs.Edges.{elem-joins}
-use Rattle.bits.specs.Word.{members, meets}
+use Rattle.bits.specs.Word.{members, overlaps}
 use Rattle.session.specs.Limits.{maxNodes, wordBits}
 use Rattle.session.specs.Trigger.{Trigger, Graph, Marks, states, nodes, linked, admits, agrees, edge, pattern}
 use Rattle.session.specs.Layout.{triggerOf, graphOf, marksOf, inLayout}
@@ -47,7 +47,7 @@ module _ (xs : List ℕ) (h : inLayout xs ≡ true) where
   pub fresh-met : (masks values samples ms : List ℕ) → masks ≡ triggerOf xs .masks → values ≡ triggerOf xs .values → samples ≡ graphOf xs .samples
       → ms ≡ take 512 (drop 2611 xs) → (word v able new : ℕ)
       → members able ≡ (λ u. ltb u (length masks) && agrees 16 (getD masks u 0) (getD values u 0) (getD samples v 0))
-      → members new ≡ minus (members able) (members (getD ms v 0)) → meets word new ≡ freshAmong xs word v
+      → members new ≡ minus (members able) (members (getD ms v 0)) → overlaps word new ≡ freshAmong xs word v
   unfolding admits
   fresh-met masks values samples ms masks-is values-is samples-is ms-is word v able new able-is new-is =
       ap (λ (X : Set). anyBelow 32 (λ u. members word u && X u)) (fun-ext at)

@@ -17,7 +17,7 @@ use Rattle.simulation.proofs.Loops.{count-none, count-not, count-also}
 use Rattle.session.specs.Layout.{table, section}
 use Rattle.session.specs.Trigger.{linked}
 use Rattle.listing.specs.Order.{fold, visit, order}
-use Rattle.walk_order.specs.Walks.{linkedBy, Holds, Counted, unvisited, Written, Ready, Visited, rest}
+use Rattle.walk_order.specs.Walks.{linkedBy, WalkOf, Counted, unvisited, Written, Ready, Visited, rest}
 use Rattle.walk_order.specs.declared.Walk.{Walk}
 use Rattle.listing.proofs.Orders.{along, follow, numbers, visit-old, visit-new}
 
@@ -35,8 +35,8 @@ unfolding elem
 elem-snoc x xs = fun-ext (λ u. elem-append u xs (x ∷ []) ∙ ap (λ (b : Bool). elem u xs || b) (or-false (eqb u x)))
 
 -- what the walk holds with the state written
-pub written-holds : (state v : ℕ) (w : Walk) (xs : List ℕ) → members v ≡ also (members (w .visited)) state → w .len < 16 → Holds xs w
-    → Holds (xs ++ (state ∷ [])) (record { visited = v; states = set (w .states) (w .len) (state + 1); len = w .len + 1 })
+pub written-holds : (state v : ℕ) (w : Walk) (xs : List ℕ) → members v ≡ also (members (w .visited)) state → w .len < 16 → WalkOf xs w
+    → WalkOf (xs ++ (state ∷ [])) (record { visited = v; states = set (w .states) (w .len) (state + 1); len = w .len + 1 })
 written-holds state v w xs e room h =
     let k = length-map xs (λ u. u + 1) in
     record {
@@ -69,7 +69,7 @@ unfolding fold
 fold-next n step xs = rw add-one
 
 -- whether the index is in the list
-held : (w : Walk) (xs : List ℕ) → Holds xs w → (u : ℕ) → elem u xs ≡ members (w .visited) u
+held : (w : Walk) (xs : List ℕ) → WalkOf xs w → (u : ℕ) → elem u xs ≡ members (w .visited) u
 held w xs h u = ap (λ (X : Set). X u) (sym (h .seen))
 
 -- the walk w after i links of the state, from the walk w₀ that has it written
@@ -77,8 +77,8 @@ pub record Along (links : List ℕ) (state : ℕ) (w₀ w : Walk) (i : ℕ) : Ty
   pub inside : i ≤ length links
   pub counted : Counted (length links) w
   pub longer : w₀ .len ≤ w .len
-  pub holds : (xs : List ℕ) (depth : ℕ) → Holds xs w₀ → length links ≤ depth + length xs
-      → Holds (fold i (along (linkedBy links) depth state) xs) w
+  pub holds : (xs : List ℕ) (depth : ℕ) → WalkOf xs w₀ → length links ≤ depth + length xs
+      → WalkOf (fold i (along (linkedBy links) depth state) xs) w
 
 pub along-start : (links : List ℕ) (state : ℕ) (w : Walk) → Counted (length links) w → Along links state w w 0
 unfolding fold
@@ -86,7 +86,7 @@ along-start links state w e =
     record { inside = omega arith; counted = e; longer = omega arith; holds = λ xs depth h l. h }
 
 module _ (links : List ℕ) (state : ℕ) (w₀ w : Walk) (i : ℕ) (m : i < length links) (g : Along links state w₀ w i) where
-  along-stays : ((xs : List ℕ) (depth : ℕ) → Holds xs w → along (linkedBy links) depth state i xs ≡ xs)
+  along-stays : ((xs : List ℕ) (depth : ℕ) → WalkOf xs w → along (linkedBy links) depth state i xs ≡ xs)
       → Along links state w₀ w (i + 1)
   along-stays e = record {
     inside = omega arith;
@@ -131,7 +131,7 @@ pub along-end : (links : List ℕ) (state : ℕ) (w w₀ w' : Walk) (i : ℕ) �
     → Along links state w₀ w' i → length links ≤ i → Visited links state w w'
 along-end links state w w₀ w' i r e g end = record { counted = g .counted; longer = omega arith; holds = by }
   where
-    by : (xs : List ℕ) (depth : ℕ) → Holds xs w → length links ≤ depth + length xs → Holds (visit (linkedBy links) depth state xs) w'
+    by : (xs : List ℕ) (depth : ℕ) → WalkOf xs w → length links ≤ depth + length xs → WalkOf (visit (linkedBy links) depth state xs) w'
     by xs zero h l = absurd (omega (arith, ready-room (length links) state w r))
     by xs (suc depth) h l =
         let last : i ≡ length links = omega arith in
@@ -144,7 +144,7 @@ along-end links state w w₀ w' i r e g end = record { counted = g .counted; lon
 pub record Following (n : ℕ) (w₀ w : Walk) (i : ℕ) : Type 0 where
   pub inside : i ≤ n
   pub counted : Counted n w
-  pub holds : (xs : List ℕ) → Holds xs w₀ → Holds (rest i xs) w
+  pub holds : (xs : List ℕ) → WalkOf xs w₀ → WalkOf (rest i xs) w
 
 pub following-start : (n : ℕ) (w : Walk) → Counted n w → Following n w w 0
 unfolding fold
@@ -174,7 +174,7 @@ module _ (n : ℕ) (w₀ w : Walk) (i : ℕ) (m : i < n) (g : Following n w₀ w
 abbrev pub start : Walk
 start = record { visited = 0; states = replicate 16 0; len = 0 }
 
-start-holds : Holds [] start
+start-holds : WalkOf [] start
 unfolding section table elem
 start-holds = record { seen = fun-ext zero-members; numbers = refl; long = refl }
 
@@ -188,7 +188,7 @@ start-ready n l m = record {
 
 -- after the visit of State One and what follows it has the order
 pub order-held : (links : List ℕ) (w w' : Walk) → Visited links 0 start w
-    → ((xs : List ℕ) → Holds xs w → Holds (rest (length links) xs) w') → w' .states ≡ section 16 (order (linkedBy links))
+    → ((xs : List ℕ) → WalkOf xs w → WalkOf (rest (length links) xs) w') → w' .states ≡ section 16 (order (linkedBy links))
 unfolding order
 order-held links w w' v f =
     f (visit (linkedBy links) (length links) 0 []) (v .holds [] (length links) start-holds (omega arith)) .numbers

@@ -17,7 +17,7 @@ abbrev pub linkedBy : List ℕ → Trigger
 linkedBy links = record { masks = links; values = links; links = links }
 
 -- the walk holds this list of indices: their set, their numbers with zeros after them, and how many they are
-pub record Holds (xs : List ℕ) (w : Walk) : Type 0 where
+pub record WalkOf (xs : List ℕ) (w : Walk) : Type 0 where
   pub seen : members (w .visited) ≡ (λ u. elem u xs)
   pub numbers : w .states ≡ section 16 (map (λ u. u + 1) xs)
   pub long : w .len ≡ length xs
@@ -34,7 +34,7 @@ unvisited n w = count n (λ u. not (members (w .visited) u))
 pub record Written (state : ℕ) (w w' : Walk) : Type 0 where
   pub seen : members (w' .visited) ≡ also (members (w .visited)) state
   pub long : w' .len ≡ w .len + 1
-  pub holds : (xs : List ℕ) → Holds xs w → Holds (xs ++ (state ∷ [])) w'
+  pub holds : (xs : List ℕ) → WalkOf xs w → WalkOf (xs ++ (state ∷ [])) w'
 
 -- a state of n that the walk can visit
 pub record Ready (n state : ℕ) (w : Walk) : Type 0 where
@@ -47,8 +47,8 @@ pub record Ready (n state : ℕ) (w : Walk) : Type 0 where
 pub record Visited (links : List ℕ) (state : ℕ) (w w' : Walk) : Type 0 where
   pub counted : Counted (length links) w'
   pub longer : w .len < w' .len
-  pub holds : (xs : List ℕ) (depth : ℕ) → Holds xs w → length links ≤ depth + length xs
-      → Holds (visit (linkedBy links) depth state xs) w'
+  pub holds : (xs : List ℕ) (depth : ℕ) → WalkOf xs w → length links ≤ depth + length xs
+      → WalkOf (visit (linkedBy links) depth state xs) w'
 
 -- each state below n that is not written, in turn
 abbrev pub rest : ℕ → List ℕ → List ℕ

@@ -5,7 +5,7 @@ ghost use Prim.Native.Nat.{ℕ, _<_, _≤_};
 ghost use lib.ListN.{length};
 ghost use Rattle.session.specs.Layout.{section};
 ghost use Rattle.listing.specs.Order.{order};
-ghost use Rattle.walk_order.specs.Walks.{linkedBy, Holds, Counted, Written, Ready, Visited, rest};
+ghost use Rattle.walk_order.specs.Walks.{linkedBy, WalkOf, Counted, Written, Ready, Visited, rest};
 ghost use Rattle.session.specs.Limits.{maxStates};
 
 // What was visited, as a set, and the numbers of the states in the order in which they were; places past them are zero.
@@ -52,7 +52,7 @@ pub fn visit(links: &[u32], state: u32, walk: Walk) -> Walk
 // The states that the visit of State One does not reach follow in ascending number.
 pub fn followed(states: u32, walk: Walk) -> Walk
     requires { ⌜ (states ≤ maxStates) × Counted states walk ⌝ }
-    ensures { λ r. ⌜ ((xs : List ℕ) → Holds xs walk → Holds (rest states xs) r) ⌝ }
+    ensures { λ r. ⌜ ((xs : List ℕ) → WalkOf xs walk → WalkOf (rest states xs) r) ⌝ }
 {
     let mut w = walk;
     let mut i: u32 = 0;

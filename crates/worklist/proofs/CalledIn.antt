@@ -11,7 +11,7 @@ use borrow.Author.Tests.{eqb-true, eqb-false, eq-eqb, ne-eqb}
 use Rattle.simulation.specs.Sets.{Set, anyBelow, also}
 use Rattle.simulation.proofs.Sets.{clash, split, refuted, and-l, and-r, or-both}
 use Rattle.worklist.specs.Waiting.{waits}
-use Rattle.edge_indexes.specs.Indexes.{endsAt, Indexed, precedes}
+use Rattle.edge_indexes.specs.Indexes.{endsAt, Indexed, predecessors}
 use Rattle.edge_indexes.proofs.Incoming.{called, called-all, Chained, chained-head, called-head, chained-next, called-next}
 
 -- ---- the predecessors called in
@@ -21,7 +21,7 @@ pub record Calling (es : List ℕ) (P : Set) (v : ℕ) (ws ws' : List ℕ) (n : 
   pub chain : Chained es v n
   pub waiting : waits ws' ≡ (λ w. waits ws w || (called es v n w && P w))
 
-pub calling-done : {es : List ℕ} {P : Set} {v : ℕ} {ws ws' : List ℕ} → Calling es P v ws ws' 0 → waits ws' ≡ (λ w. waits ws w || (precedes es v w && P w))
+pub calling-done : {es : List ℕ} {P : Set} {v : ℕ} {ws ws' : List ℕ} → Calling es P v ws ws' 0 → waits ws' ≡ (λ w. waits ws w || (predecessors es v w && P w))
 calling-done {es} {P} {v} {ws} y = y .waiting ∙ fun-ext (λ w. ap (λ (b : Bool). waits ws w || (b && P w)) (called-all es v w))
 
 module _ {es heads nexts : List ℕ} (x : Indexed es heads nexts) (P : Set) where
@@ -96,8 +96,8 @@ module _ (es : List ℕ) (P : Set) (v : ℕ) where
       ∙ ap (λ (b : Bool). waits ws w || (b && P w)) (or-comm (leadsTo k w) (endsAt es v k && eqb (getD es k 0 / 512) w))
       ∙ ap (λ (n : ℕ). waits ws w || (leadsTo n w && P w)) (sym (add-one k)))
 
-  pub leads-all : (w : ℕ) → leadsTo (length es) w ≡ precedes es v w
-  unfolding precedes
+  pub leads-all : (w : ℕ) → leadsTo (length es) w ≡ predecessors es v w
+  unfolding predecessors
   leads-all w = refl
 
 -- one edge: its start is put in, or nothing is

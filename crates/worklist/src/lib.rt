@@ -6,11 +6,11 @@ ghost use lib.Dec.{eqb};
 ghost use lib.ListN.{length, getD};
 ghost use Rattle.simulation.specs.Sets.{also, without};
 ghost use Rattle.simulation.specs.Search.{first};
-ghost use Rattle.bits.specs.Word.{meets, members};
+ghost use Rattle.bits.specs.Word.{overlaps, members};
 ghost use Rattle.session.specs.Limits.{maxEdges, maxNodes};
 ghost use Rattle.session.specs.Layout.{below};
 ghost use Rattle.worklist.specs.Waiting.{waits};
-ghost use Rattle.edge_indexes.specs.Indexes.{Indexed, precedes};
+ghost use Rattle.edge_indexes.specs.Indexes.{Indexed, predecessors};
 ghost use Rattle.worklist.specs.Waiting.{waits};
 
 // A bit for each node.
@@ -60,7 +60,7 @@ pub fn call_in_by_index(
 )
     requires { ⌜ (length (now waiting) ≡ 16) × (node < maxNodes) × (length (now edges) ≤ maxEdges) × (length (now table) ≡ maxNodes) ⌝ }
     requires { ⌜ (below 262144 (now edges) ≡ true) × Indexed (now edges) (now heads) (now nexts) ⌝ }
-    ensures { λ r. ⌜ (length (now (waiting .exit)) ≡ 16) × (waits (now (waiting .exit)) ≡ (λ w. waits (now (waiting .entry)) w || (precedes (now (edges .entry)) node w && meets (getD (now (table .entry)) w 0) word))) ⌝ }
+    ensures { λ r. ⌜ (length (now (waiting .exit)) ≡ 16) × (waits (now (waiting .exit)) ≡ (λ w. waits (now (waiting .entry)) w || (predecessors (now (edges .entry)) node w && overlaps (getD (now (table .entry)) w 0) word))) ⌝ }
 {
     let mut next = heads[node] as usize;
     while next != 0 {
@@ -76,7 +76,7 @@ pub fn call_in_by_index(
 // Puts the start of an edge in, where the edge ends at the node and the table has a state of the word at its start.
 pub fn call_one(waiting: &mut [u32], edge: u32, node: usize, table: &[u32], word: u32)
     requires { ⌜ (length (now waiting) ≡ 16) × (edge < 262144) × (length (now table) ≡ maxNodes) ⌝ }
-    ensures { λ r. ⌜ (length (now (waiting .exit)) ≡ 16) × (waits (now (waiting .exit)) ≡ (λ w. waits (now (waiting .entry)) w || ((eqb (edge % maxNodes) node && eqb (edge / maxNodes) w) && meets (getD (now (table .entry)) w 0) word))) ⌝ }
+    ensures { λ r. ⌜ (length (now (waiting .exit)) ≡ 16) × (waits (now (waiting .exit)) ≡ (λ w. waits (now (waiting .entry)) w || ((eqb (edge % maxNodes) node && eqb (edge / maxNodes) w) && overlaps (getD (now (table .entry)) w 0) word))) ⌝ }
 {
     if (edge % session::EDGE_BASE) as usize == node {
         let start = (edge / session::EDGE_BASE) as usize;
@@ -90,7 +90,7 @@ pub fn call_one(waiting: &mut [u32], edge: u32, node: usize, table: &[u32], word
 pub fn call_in_by_edges(waiting: &mut [u32], edges: &[u32], node: usize, table: &[u32], word: u32)
     requires { ⌜ (length (now waiting) ≡ 16) × (node < maxNodes) × (length (now edges) ≤ maxEdges) × (length (now table) ≡ maxNodes) ⌝ }
     requires { ⌜ below 262144 (now edges) ≡ true ⌝ }
-    ensures { λ r. ⌜ (length (now (waiting .exit)) ≡ 16) × (waits (now (waiting .exit)) ≡ (λ w. waits (now (waiting .entry)) w || (precedes (now (edges .entry)) node w && meets (getD (now (table .entry)) w 0) word))) ⌝ }
+    ensures { λ r. ⌜ (length (now (waiting .exit)) ≡ 16) × (waits (now (waiting .exit)) ≡ (λ w. waits (now (waiting .entry)) w || (predecessors (now (edges .entry)) node w && overlaps (getD (now (table .entry)) w 0) word))) ⌝ }
 {
     let mut k = 0;
     while k < edges.len() {
@@ -111,7 +111,7 @@ pub fn call_in(
 )
     requires { ⌜ (length (now waiting) ≡ 16) × (node < maxNodes) × (length (now edges) ≤ maxEdges) × (length (now table) ≡ maxNodes) ⌝ }
     requires { ⌜ (below 262144 (now edges) ≡ true) × ((length (now heads) ≡ 0 → ⊥) → Indexed (now edges) (now heads) (now nexts)) ⌝ }
-    ensures { λ r. ⌜ (length (now (waiting .exit)) ≡ 16) × (waits (now (waiting .exit)) ≡ (λ w. waits (now (waiting .entry)) w || (precedes (now (edges .entry)) node w && meets (getD (now (table .entry)) w 0) word))) ⌝ }
+    ensures { λ r. ⌜ (length (now (waiting .exit)) ≡ 16) × (waits (now (waiting .exit)) ≡ (λ w. waits (now (waiting .entry)) w || (predecessors (now (edges .entry)) node w && overlaps (getD (now (table .entry)) w 0) word))) ⌝ }
 {
     if heads.len() == 0 {
         call_in_by_edges(waiting, edges, node, table, word);

@@ -7,7 +7,6 @@ use mathlib.Core.List.{List}
 use lib.ListN.{length, getD}
 use Rattle.session.specs.Trigger.{edgeNumber}
 use Rattle.session.specs.Layout.{table}
-use Rattle.session.specs.Tests.{numbered}
 use Rattle.session.proofs.Tables.{below-take}
 use Rattle.sections.proofs.Fills.{Filled, fill-start, fill-step, fill-end}
 use Rattle.sections.proofs.copy_edges.Statement.{statement}
@@ -76,7 +75,6 @@ same-length : tie.Need-same-length Inv-loop μ-loop
 same-length c = search needs
 
 returns : tie.Need-returns Inv-loop μ-loop
-unfolding numbered
 returns c =
     let s = c .before .before in
     let f : ℕ → ℕ = number (s .args .starts .now) (s .args .ends .now) in

@@ -3,7 +3,7 @@ use borrow.Author.Needs.{needs}
 use mathlib.Core.Path.{refl, sym}
 use lib.ListN.{length}
 use lib.Seq.{length-take-le}
-use Rattle.session.specs.Tests.{numbered}
+use Rattle.session.specs.Layout.{numbered}
 use Rattle.session.proofs.Tables.{length-numbered}
 use Rattle.sections.proofs.Fills.{fill-parts}
 use Rattle.sections.proofs.fill_edges.Statement.{statement}

@@ -1,6 +1,6 @@
 -- `call_in_by_edges` meets its contract: the predecessors by the first k edges have been called in.
 use Prim.Native.Nat.{ℕ, _-_, _≤_}
-use Rattle.bits.specs.Word.{meets}
+use Rattle.bits.specs.Word.{overlaps}
 use Rattle.worklist.proofs.CalledIn.{leadsTo, leads-none, leads-more, leads-all}
 use Rattle.worklist.specs.Waiting.{waits}
 use Rattle.session.proofs.Tables.{below-take}
@@ -14,13 +14,13 @@ use Rattle.worklist.proofs.call_in_by_edges.Statement.{statement}
 use Rattle.worklist.proofs.call_in_by_edges.Tie as tie
 
 abbrev Inv-loop : tie.InvT-loop
-Inv-loop waiting₀ edges node table word k₀ waiting k = (k ≤ length edges) × (length waiting ≡ 16) × (waits waiting ≡ (λ w. waits waiting₀ w || (leadsTo edges (λ x. meets (getD table x 0) word) node k w && meets (getD table w 0) word)))
+Inv-loop waiting₀ edges node table word k₀ waiting k = (k ≤ length edges) × (length waiting ≡ 16) × (waits waiting ≡ (λ w. waits waiting₀ w || (leadsTo edges (λ x. overlaps (getD table x 0) word) node k w && overlaps (getD table w 0) word)))
 
 abbrev μ-loop : tie.MeasureT-loop
 μ-loop waiting₀ edges node table word k₀ waiting k = length edges - k
 
 loop-holds : tie.Need-loop-holds Inv-loop μ-loop
-loop-holds c = let a = c .before .before .before .args in (search needs, search needs, leads-none (a .edges .now) (λ x. meets (getD (a .table .now) x 0) (a .word)) (a .node) (a .waiting .now))
+loop-holds c = let a = c .before .before .before .args in (search needs, search needs, leads-none (a .edges .now) (λ x. overlaps (getD (a .table .now) x 0) (a .word)) (a .node) (a .waiting .now))
 
 mul-call-one : tie.Need-mul-call-one Inv-loop μ-loop
 mul-call-one c = search needs
@@ -47,7 +47,7 @@ loop-again c =
     let one = c .before .before .call-one in (
       omega (arith, c .before .before .before .before .before .loop-test .taken),
       one .ensures .0,
-      leads-more (a .edges .now) (λ x. meets (getD (a .table .now) x 0) (a .word)) (a .node) (a .waiting .now) (h .loop .waiting) (one .last .0) (h .loop .k) (h .loop .inv .2) (one .ensures .1),
+      leads-more (a .edges .now) (λ x. overlaps (getD (a .table .now) x 0) (a .word)) (a .node) (a .waiting .now) (h .loop .waiting) (one .last .0) (h .loop .k) (h .loop .inv .2) (one .ensures .1),
     )
 
 same-length : tie.Need-same-length Inv-loop μ-loop
@@ -58,7 +58,7 @@ returns c =
     let h = c .before in
     let s = h .before .before .before .before in
     let a = s .args in
-    let P : Set = λ x. meets (getD (a .table .now) x 0) (a .word) in (
+    let P : Set = λ x. overlaps (getD (a .table .now) x 0) (a .word) in (
       h .loop .inv .1,
       h .loop .inv .2
           ∙ fun-ext

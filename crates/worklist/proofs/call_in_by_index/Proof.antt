@@ -1,6 +1,6 @@
 -- `call_in_by_index` meets its contract: `next` edges are left, and the predecessors by later edges have been called in.
 use Prim.Native.Nat.{ℕ, _-_}
-use Rattle.bits.specs.Word.{meets}
+use Rattle.bits.specs.Word.{overlaps}
 use Rattle.worklist.proofs.CalledIn.{Calling, calling-none, calling-more, calling-pass, calling-done}
 use Rattle.edge_indexes.proofs.Incoming.{chained-less}
 use Rattle.session.proofs.Tables.{below-take}
@@ -15,7 +15,7 @@ use Rattle.worklist.proofs.call_in_by_index.Statement.{statement}
 use Rattle.worklist.proofs.call_in_by_index.Tie as tie
 
 abbrev Inv-loop : tie.InvT-loop
-Inv-loop waiting₀ edges heads nexts node table word next₀ waiting next = (length waiting ≡ 16) × Calling edges (λ w. meets (getD table w 0) word) node waiting₀ waiting next
+Inv-loop waiting₀ edges heads nexts node table word next₀ waiting next = (length waiting ≡ 16) × Calling edges (λ w. overlaps (getD table w 0) word) node waiting₀ waiting next
 
 abbrev μ-loop : tie.MeasureT-loop
 μ-loop waiting₀ edges heads nexts node table word next₀ waiting next = next
@@ -35,7 +35,7 @@ cast-next c = omega (arith, c .shared-slice-known5 .given (c .before .before .be
 loop-holds : tie.Need-loop-holds Inv-loop μ-loop
 loop-holds c =
     let s = c .before .before .before .before .before .before in
-    (search needs, calling-none (s .pre .1 .1) (λ w. meets (getD (s .args .table .now) w 0) (s .args .word)) (s .args .node) (s .args .waiting .now) (omega arith))
+    (search needs, calling-none (s .pre .1 .1) (λ w. overlaps (getD (s .args .table .now) w 0) (s .args .word)) (s .args .node) (s .args .waiting .now) (omega arith))
 
 sub-k : tie.Need-sub-k Inv-loop μ-loop
 sub-k c = search needs
@@ -84,7 +84,7 @@ loop-again c =
     let h = t .before in
     let s = startOf h in
     let meet = c .before .before .meet in
-    let P : Set = λ w. meets (getD (s .args .table .now) w 0) (s .args .word) in (
+    let P : Set = λ w. overlaps (getD (s .args .table .now) w 0) (s .args .word) in (
       ⊎-elim (λ w. ap length (w .5) ∙ w .2 .ensures .0) (λ w. ap length (w .1) ∙ h .loop .inv .0) (c .before .if1 .came),
       ⊎-elim
           (λ w. subst (λ (ws : List ℕ). Calling (s .args .edges .now) P (s .args .node) (s .args .waiting .now) ws (getD (s .args .nexts .now) (h .loop .next - 1) 0)) (sym (w .5)) (calling-more (s .pre .1 .1) P (h .loop .inv .1) (t .loop-test .taken) (sym (meet .ensures) ∙ w .0 .taken) (w .2 .ensures .1)))

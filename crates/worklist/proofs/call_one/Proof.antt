@@ -1,6 +1,6 @@
 -- `call_one` meets its contract: the start is put in where the edge ends at the node and the table passes.
 use Prim.Native.Nat.{ℕ}
-use Rattle.bits.specs.Word.{meets}
+use Rattle.bits.specs.Word.{overlaps}
 use Rattle.worklist.proofs.CalledIn.{one-in, one-out, ends-elsewhere, start-fails}
 use Rattle.simulation.specs.Sets.{Set}
 use borrow.Author.Needs.{needs}
@@ -12,7 +12,7 @@ use Rattle.worklist.proofs.call_one.Tie as tie
 
 -- the table has a state of the word
 abbrev test : tie.Start → Set
-test s = λ w. meets (getD (s .args .table .now) w 0) (s .args .word)
+test s = λ w. overlaps (getD (s .args .table .now) w 0) (s .args .word)
 
 cast-if1 : tie.Need-cast-if1
 cast-if1 c = search needs
