@@ -29,7 +29,6 @@ use Rattle.cases.specs.Cases.{
   firing,
   order,
   Told,
-  report,
   says,
   lists,
   heard,

@@ -1,7 +1,7 @@
 -- A deletion from the session at entry: the edge is taken out, and the marks stay where they are steady, or those that refinement leaves are stored.
 use Prim.Native.Nat.{ℕ, _<_}
 use native.Mathlib.Nat.{lt-of-lt-of-le}
-use mathlib.Core.Path.{_≡_, sym}
+use mathlib.Core.Path.{_≡_}
 use mathlib.Core.Bool.{true}
 use mathlib.Core.List.{List}
 use Rattle.simulation.proofs.Terms.{joined}

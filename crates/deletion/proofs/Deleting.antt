@@ -1,14 +1,14 @@
 -- A deletion: what refinement leaves of the marks, and when it may be left out.
 use Prim.Native.Nat.{ℕ, _*_, _/_, _%_, _<_}
 use native.Mathlib.Nat.{mod-lt}
-use mathlib.Core.Path.{_≡_, refl, sym, _∙_, ap, subst}
+use mathlib.Core.Path.{_≡_, sym, _∙_, ap, subst}
 use mathlib.Core.Logic.{⊎-elim}
-use mathlib.Core.Bool.{Bool, true, false, not, _&&_, _||_}
+use mathlib.Core.Bool.{true, not, _||_}
 use mathlib.Core.List.{List}
 use lib.Dec.{eqb}
 use borrow.Author.Tests.{eqb-true, eqb-false}
-use Rattle.simulation.specs.Sets.{Set, In, none, union, minus, allBelow}
-use Rattle.simulation.specs.System.{supported, refined}
+use Rattle.simulation.specs.Sets.{Set, In, none, minus}
+use Rattle.simulation.specs.System.{refined}
 use Rattle.simulation.specs.Pattern.{pair, system}
 use Rattle.simulation.proofs.Sets.{split, clash, refuted, implies-take, all-take, and-l, and-r, not-take}
 use Rattle.simulation.proofs.System.{swept}
@@ -17,13 +17,13 @@ use Rattle.simulation.proofs.Terms.{joined}
 use Rattle.simulation.proofs.Loops.{count-none}
 use Rattle.session.specs.Trigger.{Trigger, Graph, Marks, states, nodes, edge, pattern}
 use Rattle.session.specs.Layout.{triggerOf, graphOf, marksOf, inLayout}
-use Rattle.session.proofs.Decoded.{Inside, LayoutFacts, layout-facts}
+use Rattle.session.proofs.Decoded.{LayoutFacts, layout-facts}
 use Rattle.pair_tables.specs.Tables.{marked}
-use Rattle.promises.specs.Standing.{stands, size, pairsOf}
+use Rattle.promises.specs.Standing.{stands, pairsOf}
 use Rattle.promises.specs.Promises.{ceased}
 use Rattle.promises.proofs.Stands.{stands-inside}
 use Rattle.promises.proofs.Changed.{deleted-stands, deleted-first}
-use Rattle.editing.specs.Steps.{Holds, markedPairs, backed, steadyAt, Ceased}
+use Rattle.editing.specs.Steps.{markedPairs, backed, steadyAt, Ceased}
 use Rattle.editing.proofs.Pairs.{marks-below, marks-same, holds-marks}
 
 -- none cease where the marks stay

@@ -13,7 +13,7 @@ use Rattle.simulation.proofs.Sets.{clash, refuted, and-l, any-take}
 use Rattle.simulation.proofs.Edges.{all-same}
 use Rattle.bits.specs.Word.{members}
 use Rattle.bits.proofs.Words.{zero-members}
-use Rattle.session.specs.Trigger.{Trigger, Graph, Marks, states, nodes, pattern}
+use Rattle.session.specs.Trigger.{Trigger, Graph, Marks, nodes, pattern}
 use Rattle.session.specs.Layout.{triggerOf, graphOf, marksOf, inLayout}
 use Rattle.session.proofs.Decoded.{LayoutFacts, layout-facts}
 use Rattle.pair_tables.specs.Tables.{marked}

@@ -1,14 +1,14 @@
 -- A call that breaks no rule, from its edit proper and its report.
-use Prim.Native.Nat.{ℕ, _<_}
+use Prim.Native.Nat.{ℕ}
 use native.Mathlib.Omega.{arith}
-use mathlib.Core.Path.{_≡_, refl, sym, _∙_, ap}
+use mathlib.Core.Path.{_≡_, _∙_, ap}
 use mathlib.Core.Bool.{true}
-use mathlib.Core.List.{List, _++_}
+use mathlib.Core.List.{List}
 use lib.IntN.{ℤ}
-use lib.ListN.{getD, length, drop}
+use lib.ListN.{getD, drop}
 use Rattle.session.specs.Limits.{fixedSize}
 use Rattle.session.specs.Trigger.{Trigger, Graph, Marks, states, nodes}
-use Rattle.session.specs.Layout.{image, triggerOf, graphOf, marksOf, inLayout}
+use Rattle.session.specs.Layout.{triggerOf, graphOf, marksOf, inLayout}
 use Rattle.session.proofs.Image.{states-word, nodes-word}
 use Rattle.session.proofs.Decoded.{Inside, marks-take}
 use Rattle.listing.specs.Changes.{changes}

@@ -2,14 +2,14 @@
 use Prim.Native.Nat.{ℕ, _≤_}
 use native.Mathlib.Omega.{arith}
 use mathlib.Core.Path.{_≡_, refl, _∙_, ap}
-use mathlib.Core.Bool.{Bool, true, false}
-use mathlib.Core.List.{List, _++_}
+use mathlib.Core.Bool.{true, false}
+use mathlib.Core.List.{List}
 use lib.ListN.{length, take, drop, length-append, length-drop}
 use Rattle.simulation.proofs.Sets.{clash}
 use Rattle.session.specs.Limits.{fixedSize}
-use Rattle.session.specs.Trigger.{Trigger, Graph, Marks, nodes, admits}
+use Rattle.session.specs.Trigger.{Trigger, Graph, Marks, admits}
 use Rattle.session.specs.Layout.{image, triggerOf, graphOf, marksOf, validMarks, inLayout}
-use Rattle.session.proofs.Valid.{TriggerFacts, GraphFacts}
+use Rattle.session.proofs.Valid.{GraphFacts}
 use Rattle.session.proofs.Image.{length-image, drop-image}
 use Rattle.session.proofs.Decoded as decoded
 use Rattle.session.proofs.Decoded.{LayoutFacts, layout-facts, trigger-image, graph-image, marks-image, layout-image}

@@ -1,16 +1,13 @@
 -- Tables, sets of pairs and marks.
-use Prim.Native.Nat.{ℕ, _+_, _*_, _/_, _%_, _<_}
-use native.Mathlib.Nat.{div-add-mod', mod-lt}
-use native.Mathlib.Omega.{arith}
-use mathlib.Core.Path.{_≡_, refl, sym, _∙_, ap, fun-ext}
-use mathlib.Core.Logic.{⊎-elim}
-use mathlib.Core.Bool.{Bool, true, false}
+use Prim.Native.Nat.{ℕ, _*_, _/_, _%_, _<_}
+use native.Mathlib.Nat.{mod-lt}
+use mathlib.Core.Path.{_≡_, sym, _∙_, ap, fun-ext}
+use mathlib.Core.Bool.{true}
 use mathlib.Core.List.{List}
 use Rattle.simulation.specs.Sets.{Set, In}
 use Rattle.simulation.specs.Pattern.{pair}
-use Rattle.simulation.proofs.Sets.{same, refuted}
-use Rattle.simulation.proofs.Search.{lt-or-le}
-use Rattle.simulation.proofs.Pattern.{pair-inside, pair-whole, paired-pair, node-inside}
+use Rattle.simulation.proofs.Sets.{same}
+use Rattle.simulation.proofs.Pattern.{pair-inside, pair-whole, paired-pair}
 use Rattle.session.specs.Trigger.{Trigger, Graph, Marks, states, nodes, pattern}
 use Rattle.session.specs.Layout.{triggerOf, graphOf}
 use Rattle.session.proofs.Decoded.{Inside}

@@ -9,7 +9,7 @@ use Rattle.simulation.specs.Sets.{Set, In, none, union, allBelow, anyBelow, cou
 use Rattle.simulation.specs.System.{supported, refined}
 use Rattle.simulation.specs.Pattern.{pair, system}
 use Rattle.session.specs.Limits.{maxNodes, maxChanges, fixedSize}
-use Rattle.session.specs.Trigger.{Trigger, Graph, Marks, states, nodes, linked, admits, pattern}
+use Rattle.session.specs.Trigger.{Marks, states, nodes, linked, admits, pattern}
 use Rattle.session.specs.Layout.{triggerOf, graphOf, marksOf, inLayout}
 use Rattle.bits.specs.Word.{members}
 use Rattle.pair_tables.specs.Tables.{marked}

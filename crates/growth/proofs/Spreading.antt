@@ -1,21 +1,19 @@
 -- One look at a node: a node that gains states, and the predecessors one by one.
-use Prim.Native.Nat.{ℕ, _+_, _-_, _/_, _^_, _<_}
-use native.Mathlib.Nat.{lt-of-le-of-lt}
+use Prim.Native.Nat.{ℕ, _-_, _/_, _<_}
 use native.Mathlib.Omega.{arith}
 use mathlib.Core.Path.{_≡_, refl, sym, ap, ap₂, fun-ext, _∙_}
 use mathlib.Core.Logic.{⊎-elim}
 use mathlib.Core.Bool.{Bool, true, false, not, _&&_, _||_, or-false, or-assoc, and-comm}
 use mathlib.Core.List.{List}
-use lib.Bits.{bitAnd, and-le-l}
-use lib.Dec.{ltb, eqb}
+use lib.Bits.{bitAnd}
+use lib.Dec.{eqb}
 use lib.ListN.{length, getD, set, length-set}
 use lib.Seq.{getD-set-same, getD-set-other}
 use borrow.Author.Tests.{eqb-true, eqb-false, eq-eqb, ne-eqb}
-use Rattle.simulation.specs.Sets.{Set, none, also, union, without, anyBelow}
-use Rattle.simulation.proofs.Sets.{split, same, or-l, or-both, not-take}
+use Rattle.simulation.specs.Sets.{Set, also, union, without}
+use Rattle.simulation.proofs.Sets.{split, same, or-l, or-both}
 use Rattle.bits.specs.Word.{members}
-use Rattle.bits.proofs.Words.{zero-members, and-members, same-members}
-use Rattle.bits.proofs.Tests.{empty-any}
+use Rattle.bits.proofs.Words.{and-members, same-members}
 use Rattle.links.specs.Links.{linksTo}
 use Rattle.pair_tables.specs.Tables.{marked}
 use Rattle.worklist.specs.Waiting.{waits}

@@ -3,9 +3,9 @@ use Prim.Native.Nat.{ℕ, _*_, _<_}
 use mathlib.Core.Path.{_≡_}
 use mathlib.Core.Bool.{true, not, _&&_, _||_}
 use mathlib.Core.List.{List}
-use lib.Dec.{ltb, eqb}
+use lib.Dec.{eqb}
 use lib.ListN.{length, getD}
-use Rattle.simulation.specs.Sets.{Set, without, anyBelow}
+use Rattle.simulation.specs.Sets.{without}
 use Rattle.simulation.specs.System.{closure}
 use Rattle.simulation.specs.Pattern.{system}
 use Rattle.bits.specs.Word.{members}

@@ -2,22 +2,22 @@
 use Prim.Native.Nat.{ℕ, _*_, _/_, _%_, _<_}
 use native.Mathlib.Nat.{lt-of-lt-of-le}
 use native.Mathlib.Omega.{arith}
-use mathlib.Core.Path.{_≡_, refl, sym, _∙_, ap, subst}
-use mathlib.Core.Bool.{Bool, true, false, _||_}
+use mathlib.Core.Path.{_≡_, sym, _∙_, ap}
+use mathlib.Core.Bool.{true, false, _||_}
 use mathlib.Core.List.{List}
 use lib.ListN.{length, getD}
-use Rattle.simulation.specs.Sets.{Set, count}
+use Rattle.simulation.specs.Sets.{count}
 use Rattle.simulation.specs.System.{refined}
 use Rattle.simulation.specs.Pattern.{system}
 use Rattle.simulation.proofs.Terms.{joined}
-use Rattle.session.specs.Trigger.{Trigger, Graph, Marks, states, nodes, edge, admits, pattern}
-use Rattle.session.specs.Layout.{triggerOf, graphOf, marksOf, validMarks, inLayout}
+use Rattle.session.specs.Trigger.{Trigger, Graph, nodes, edge, pattern}
+use Rattle.session.specs.Layout.{triggerOf, graphOf, marksOf, inLayout}
 use Rattle.session.proofs.Valid.{edge-insert}
 use Rattle.session.proofs.Decoded.{LayoutFacts, layout-facts}
 use Rattle.pair_tables.specs.Tables.{marked}
 use Rattle.promises.specs.Standing.{stands, size, pairsOf, trialSet}
 use Rattle.promises.specs.Rules.{insertion, edited, graphRules, verdict}
-use Rattle.promises.specs.Promises.{Left, Free, Done}
+use Rattle.promises.specs.Promises.{Left, Done}
 use Rattle.promises.proofs.Edits.{insertion-passed}
 use Rattle.session_parts.specs.Inside.{Inside}
 use Rattle.editing.specs.Steps.{Holds, markedPairs, seedsOf}

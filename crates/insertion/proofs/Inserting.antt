@@ -1,16 +1,16 @@
 -- An insertion: the trial set refined beside the marks, and when it may be left out.
 use Prim.Native.Nat.{ℕ, _*_, _/_, _%_, _<_, _≤_}
 use native.Mathlib.Nat.{mod-lt}
-use mathlib.Core.Path.{_≡_, refl, sym, _∙_, ap, ap₂, fun-ext, subst}
+use mathlib.Core.Path.{_≡_, refl, sym, _∙_, ap, fun-ext, subst}
 use mathlib.Core.Logic.{⊎-elim}
 use mathlib.Core.Bool.{true, false, not, _&&_, _||_, or-false, or-comm}
 use mathlib.Core.List.{List}
-use lib.Dec.{eqb, ltb}
+use lib.Dec.{eqb}
 use borrow.Author.Tests.{eqb-true, lt-ltb}
 use Rattle.simulation.specs.Sets.{Set, In, none, union, anyBelow, count}
-use Rattle.simulation.specs.System.{supported, refined, closure}
+use Rattle.simulation.specs.System.{refined}
 use Rattle.simulation.specs.Pattern.{pair, system}
-use Rattle.simulation.proofs.Sets.{split, clash, refuted, same, and-make, and-l, and-r, or-l, or-r, or-take, not-take, count-mono}
+use Rattle.simulation.proofs.Sets.{clash, refuted, and-make, and-l, and-r, or-r, or-take, count-mono}
 use Rattle.simulation.proofs.System.{refined-start, refined-inside, closure-inside, closure-domain, closure-least}
 use Rattle.simulation.proofs.Loops.{count-same, count-none}
 use Rattle.simulation.proofs.Pattern.{paired-pair}
@@ -24,7 +24,7 @@ use Rattle.promises.specs.Standing.{stands, size, pairsOf, fresh, trialSet}
 use Rattle.promises.proofs.Stands.{stands-inside}
 use Rattle.promises.proofs.Changed.{inserted-stands}
 use Rattle.editing.specs.Steps.{Holds, markedPairs, freshPairs, seedsOf}
-use Rattle.editing.proofs.Pairs.{marks-below, marks-same, holds-set}
+use Rattle.editing.proofs.Pairs.{marks-same, holds-set}
 
 module _ (xs : List ℕ) (h : inLayout xs ≡ true) (a b : ℕ) where
   abbrev t : Trigger

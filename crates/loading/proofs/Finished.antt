@@ -1,5 +1,5 @@
 -- A load, from what its steps ensure.
-use Prim.Native.Nat.{ℕ, _^_, _<_}
+use Prim.Native.Nat.{ℕ, _^_}
 use mathlib.Core.Path.{_≡_, refl, sym, _∙_, ap, fun-ext, subst}
 use mathlib.Core.Bool.{true, false}
 use mathlib.Core.List.{List, _++_}
@@ -7,7 +7,7 @@ use lib.IntN.{ℤ}
 use lib.ListN.{length, getD, drop}
 use Rattle.simulation.proofs.Sets.{clash}
 use Rattle.session.specs.Limits.{fixedSize, wordBits}
-use Rattle.session.specs.Trigger.{Trigger, Graph, Marks, states, nodes, admits}
+use Rattle.session.specs.Trigger.{Trigger, Graph, Marks, admits}
 use Rattle.session.specs.Layout.{below, image, triggerOf, graphOf, marksOf, inLayout}
 use Rattle.session.proofs.Valid.{TriggerFacts, GraphFacts, marks-valid}
 use Rattle.session.proofs.Image.{drop-image}

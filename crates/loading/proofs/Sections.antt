@@ -1,10 +1,10 @@
 -- The sections of a load, written one after the other.
-use Prim.Native.Nat.{ℕ, _+_, _-_, _≤_}
+use Prim.Native.Nat.{ℕ, _+_, _≤_}
 use native.Mathlib.Omega.{arith}
 use mathlib.Core.Path.{_≡_, refl, sym, _∙_, ap}
 use mathlib.Core.Bool.{false}
-use mathlib.Core.List.{List, [], _∷_, _++_, append-assoc}
-use lib.ListN.{length, set, take, drop, length-append, length-take, length-drop}
+use mathlib.Core.List.{List, [], _∷_, _++_}
+use lib.ListN.{length, set, take, drop, length-take, length-drop}
 use lib.Seq.{drop-at}
 use borrow.Rule.Slice.PartMut.{putMid}
 use Rattle.session.specs.Limits.{fixedSize}

@@ -1,20 +1,20 @@
 -- From the admitted table and its refinement to the greatest simulation.
-use Prim.Native.Nat.{ℕ, _+_, _-_, _*_, _/_, _%_, _<_, _≤_}
+use Prim.Native.Nat.{ℕ, _*_, _/_, _%_, _<_}
 use native.Mathlib.Omega.{arith}
-use mathlib.Core.Path.{_≡_, refl, sym, _∙_, ap, fun-ext}
-use mathlib.Core.Bool.{Bool, true, false, _&&_}
+use mathlib.Core.Path.{_≡_, refl, sym, _∙_, ap}
+use mathlib.Core.Bool.{true, _&&_}
 use mathlib.Core.List.{List}
 use lib.Dec.{ltb}
 use lib.ListN.{length, getD, replicate, getD-replicate}
 use borrow.Author.Tests.{ltb-true, lt-ltb}
 use Rattle.simulation.specs.Sets.{Set, none, count}
 use Rattle.simulation.specs.System.{System, greatest, refined}
-use Rattle.simulation.specs.Pattern.{Pattern, pair, paired, system, best}
+use Rattle.simulation.specs.Pattern.{pair, paired, system, best}
 use Rattle.simulation.proofs.Sets.{clash, same, and-make, and-l, and-r}
 use Rattle.simulation.proofs.System.{greatest-simulates, sandwich}
 use Rattle.simulation.proofs.Pattern.{pair-inside, paired-pair, best-make, best-pair, node-inside, state-inside}
 use Rattle.bits.specs.Word.{members}
-use Rattle.bits.proofs.Words.{zero-members, full-members}
+use Rattle.bits.proofs.Words.{full-members}
 use Rattle.session.specs.Limits.{maxNodes, wordBits}
 use Rattle.session.specs.Trigger.{Trigger, Graph, Marks, states, nodes, admits, agrees, pattern}
 use Rattle.session.specs.Layout.{triggerOf, graphOf, inLayout}

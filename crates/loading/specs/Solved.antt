@@ -1,11 +1,10 @@
 -- What the steps of a load leave.
-use Prim.Native.Nat.{ℕ, _<_}
+use Prim.Native.Nat.{ℕ}
 use mathlib.Core.Path.{_≡_}
-use mathlib.Core.Bool.{true}
 use mathlib.Core.List.{List}
 use lib.ListN.{length}
 use Rattle.session.specs.Limits.{maxNodes}
-use Rattle.session.specs.Trigger.{states, nodes, admits}
+use Rattle.session.specs.Trigger.{admits}
 use Rattle.session.specs.Layout.{triggerOf, graphOf}
 use Rattle.pair_tables.specs.Tables.{marked}
 use Rattle.promises.specs.Standing.{stands, size, pairsOf}

@@ -1,19 +1,17 @@
 -- One edge more or less: the pairs that stand after it, from those that stood before.
 use Prim.Native.Nat.{ℕ, _%_, _/_, _<_}
 use native.Mathlib.Nat.{mod-lt}
-use mathlib.Core.Path.{_≡_, refl, sym, _∙_, ap, ap₂, fun-ext, subst}
+use mathlib.Core.Path.{_≡_, sym, _∙_, ap, ap₂, fun-ext, subst}
 use mathlib.Core.Bool.{Bool, not, _&&_}
 use mathlib.Core.List.{List}
-use lib.Dec.{ltb}
 use borrow.Author.Tests.{lt-ltb}
 use Rattle.simulation.specs.Sets.{Set, In, none, union}
 use Rattle.simulation.specs.System.{supported, greatest, refined, closure}
-use Rattle.simulation.specs.Pattern.{Pattern, pair, system, best, plain}
+use Rattle.simulation.specs.Pattern.{Pattern, system, best, plain}
 use Rattle.simulation.proofs.Terms.{joined}
 use Rattle.simulation.proofs.Pattern.{pair-whole}
 use Rattle.simulation.proofs.Plain.{plain-seeds, fresh, plain-inserted, plain-deleted, plain-first}
-use Rattle.session.specs.Trigger.{Trigger, Graph, Marks, states, nodes, linked, edge, admits, pattern}
-use Rattle.promises.specs.Standing as standing
+use Rattle.session.specs.Trigger.{Trigger, Graph, states, nodes, linked, edge, admits, pattern}
 use Rattle.promises.specs.Standing.{stands, pairsOf, trialSet}
 use Rattle.promises.proofs.Chains.{over}
 

@@ -17,7 +17,7 @@ use Rattle.session.specs.Trigger.{Trigger, Graph, nodes, linked, edge, edgeNumb
 use Rattle.session.specs.Layout.{table, markWord, below}
 use Rattle.listing.specs.Changes.{joinTo, changes}
 use Rattle.listing.specs.Order.{fold, visit, order}
-use Rattle.promises.specs.Standing.{stands, fires, size, pairsOf, trialSet}
+use Rattle.promises.specs.Standing.{stands, fires, trialSet}
 use Rattle.promises.specs.Rules.{Kind, insertion, deletion, edited, graphRules, verdict, Given, loadRules}
 use Rattle.promises.specs.Promises.{loadList, loadTrials, trialCount}
 

@@ -11,14 +11,14 @@ use lib.ListN.{length, getD, take, drop, length-take, length-drop}
 use lib.Pow.{pow-mono}
 use lib.Seq.{getD-take, getD-drop}
 use borrow.Author.Tests.{ltb-true, lt-ltb, eqb-true, eqb-false, eq-eqb, ne-eqb, not-false}
-use Rattle.simulation.specs.Sets.{Set, In, union, without, anyBelow, allBelow, count}
+use Rattle.simulation.specs.Sets.{Set, In, union, without, anyBelow, count}
 use Rattle.simulation.specs.Search.{first, found}
 use Rattle.simulation.specs.Ordered.{elem, from, leads, joins}
 use Rattle.simulation.specs.System.{System, supported, refined}
-use Rattle.simulation.specs.Pattern.{Pattern, pair, paired, system}
-use Rattle.simulation.proofs.Sets.{clash, split, same, refuted, and-make, and-l, and-r, or-l, or-r, or-take, not-make, not-take, any-make, any-take, count-le, count-mono, count-drop}
-use Rattle.simulation.proofs.System.{Met, supported-make, supported-take, refined-start, sweep, swept, extensional}
-use Rattle.simulation.proofs.Pattern.{pair-state, pair-node, pair-inside, pair-whole, paired-pair, meets-take}
+use Rattle.simulation.specs.Pattern.{Pattern, pair, system}
+use Rattle.simulation.proofs.Sets.{clash, split, same, refuted, and-make, and-l, and-r, or-l, or-r, or-take, not-make, not-take, any-make, any-take, count-le, count-drop}
+use Rattle.simulation.proofs.System.{supported-make, supported-take, refined-start, sweep, swept}
+use Rattle.simulation.proofs.Pattern.{pair-inside, pair-whole, paired-pair, meets-take}
 use Rattle.simulation.proofs.Loops.{without-falls}
 use Rattle.simulation.proofs.Search.{found-make, found-take, first-at, first-before}
 use Rattle.simulation.proofs.Ordered.{Rising, rising-take, elem-at, elem-index}

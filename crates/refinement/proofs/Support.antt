@@ -1,6 +1,5 @@
 -- What a node keeps: the links of a set that no edge carries, and the states without such a link.
-use Prim.Native.Nat.{ℕ, _+_, _%_, _^_, _<_, _≤_, zero-le}
-use native.Mathlib.Numerals.{add-one}
+use Prim.Native.Nat.{ℕ, _+_, _%_, _<_, _≤_, zero-le}
 use native.Mathlib.Omega.{arith}
 use mathlib.Core.Path.{_≡_, refl, sym, ap, fun-ext, _∙_}
 use mathlib.Core.Logic.{⊎-elim}
@@ -10,9 +9,9 @@ use lib.Bits.{bitOr}
 use lib.Dec.{ltb, eqb}
 use lib.ListN.{length, getD}
 use borrow.Author.Tests.{ltb-true, lt-ltb, eqb-true, eq-eqb}
-use Rattle.simulation.specs.Sets.{Set, allBelow, anyBelow, minus}
+use Rattle.simulation.specs.Sets.{Set, allBelow, minus}
 use Rattle.simulation.specs.Search.{found}
-use Rattle.simulation.proofs.Sets.{clash, split, same, refuted, and-make, and-l, and-r, or-l, or-r, or-take, not-make, not-take, implies-make, implies-take, any-make, any-take, all-make, all-take}
+use Rattle.simulation.proofs.Sets.{clash, split, same, refuted, and-make, and-l, and-r, not-make, not-take, implies-make, implies-take, any-make, any-take, all-make, all-take}
 use Rattle.simulation.proofs.Search.{found-here, found-on, found-end}
 use Rattle.bits.specs.Word.{members, overlaps}
 use Rattle.bits.proofs.Words.{zero-members, same-members, or-members}

@@ -1,21 +1,21 @@
 -- Writing a session section by section, and its marks anew.
-use Prim.Native.Nat.{ℕ, zero, suc, _+_, _-_, _<_, _≤_}
+use Prim.Native.Nat.{ℕ, _+_, _<_, _≤_}
 use native.Mathlib.Omega.{arith}
 use mathlib.Core.Path.{_≡_, refl, sym, _∙_, ap, ap₂, fun-ext}
-use mathlib.Core.Bool.{Bool, true, false, _&&_}
+use mathlib.Core.Bool.{true, false, _&&_}
 use mathlib.Core.List.{List, [], _∷_, _++_, append-assoc}
 use lib.Dec.{ltb}
 use lib.ListN.{length, getD, set, take, drop, length-append}
-use lib.Seq.{take-at, drop-at, drop-drop, ext-getD}
-use borrow.Author.Tests.{ltb-true, lt-ltb}
-use Rattle.simulation.proofs.Sets.{clash, same, and-make, and-l, and-r, refuted}
+use lib.Seq.{take-at, drop-at, drop-drop}
+use borrow.Author.Tests.{lt-ltb}
+use Rattle.simulation.proofs.Sets.{clash, same, and-make, and-r, refuted}
 use Rattle.bits.specs.Word.{members, word}
 use Rattle.bits.proofs.Words.{same-members, word-members, zero-members}
 use Rattle.session.specs.Limits.{maxStates, maxNodes, maxEdges, marksAt, fixedSize}
 use Rattle.session.specs.Trigger.{Trigger, Graph, Marks, states, nodes}
 use Rattle.session.specs.Layout.{table, section, markWord, image}
 use Rattle.session.proofs.Tables.{length-section, table-of, table-same}
-use Rattle.session.proofs.Image.{length-image, drop-image}
+use Rattle.session.proofs.Image.{drop-image}
 
 -- ---- all but the marks
 

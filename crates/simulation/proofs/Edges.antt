@@ -16,7 +16,7 @@ use Rattle.simulation.specs.System.{supported, reaches}
 use Rattle.simulation.specs.Pattern.{Pattern, pair, paired, system, plain}
 use Rattle.simulation.specs.Ordered.{elem, insert, remove, joins, from, leads}
 use Rattle.simulation.proofs.Terms.{joined, parted}
-use Rattle.simulation.proofs.Sets.{split, clash, refuted, same, and-make, and-l, and-r, or-l, or-r, or-take, not-make, implies-make, implies-take, any-make, any-take, all-make, all-take}
+use Rattle.simulation.proofs.Sets.{split, clash, refuted, same, and-make, and-l, and-r, implies-make, implies-take, any-make, any-take, all-make, all-take}
 use Rattle.simulation.proofs.System.{Met, supported-make, supported-take, reaches-make, reaches-take}
 use Rattle.simulation.proofs.Pattern.{pair-state, pair-node, pair-inside, node-inside, pair-whole, paired-pair, meets-make, met-at, due-at}
 use Rattle.simulation.proofs.Search.{lt-or-le, found-make, found-take}

@@ -5,7 +5,7 @@ use lib.Dec.{eqb}
 use borrow.Author.Tests.{eqb-true, eq-eqb}
 use mathlib.Core.Path.{_≡_, sym, _∙_, ap, fun-ext}
 use mathlib.Core.Logic.{⊎-elim}
-use mathlib.Core.Bool.{Bool, true, false, not, _&&_, _||_, or-false, and-true}
+use mathlib.Core.Bool.{Bool, true, false, not, _&&_, or-false, and-true}
 use Rattle.simulation.specs.Sets.{Set, In, none, union, minus, anyBelow}
 use Rattle.simulation.specs.System.{System, supported, greatest, refined, closure}
 use Rattle.simulation.specs.Pattern.{Pattern, pair, system, best, plain}

@@ -1,5 +1,5 @@
 -- Seeds that draw nothing in are the whole trial set.
-use Prim.Native.Nat.{ℕ, _+_, _*_, _/_, _%_, _<_, _≤_}
+use Prim.Native.Nat.{ℕ, _+_, _*_, _/_, _%_, _<_}
 use native.Mathlib.Numerals.{add-one}
 use native.Mathlib.Omega.{arith}
 use mathlib.Core.Path.{_≡_, refl, sym, _∙_, ap, ap₂, fun-ext, subst}
@@ -10,14 +10,14 @@ use lib.ListN.{length, getD, set, take, drop, length-set}
 use borrow.Author.Tests.{ltb-true, lt-ltb, eqb-true, eq-eqb}
 use Rattle.simulation.specs.Sets.{Set, In, minus, anyBelow, allBelow}
 use Rattle.simulation.specs.System.{System, closure}
-use Rattle.simulation.specs.Pattern.{Pattern, paired, system}
+use Rattle.simulation.specs.Pattern.{system}
 use Rattle.simulation.proofs.Sets.{clash, same, refuted, and-make, and-l, and-r, not-make, not-take, implies-make, implies-take, any-make, all-take}
 use Rattle.simulation.proofs.System.{closure-seed, closure-least}
-use Rattle.simulation.proofs.Pattern.{state-inside, node-inside, meets-take}
+use Rattle.simulation.proofs.Pattern.{state-inside, meets-take}
 use Rattle.simulation.proofs.Ordered.{elem-index}
 use Rattle.simulation.proofs.Edges.{elem-joins}
 use Rattle.bits.specs.Word.{members, overlaps}
-use Rattle.session.specs.Limits.{maxNodes, wordBits}
+use Rattle.session.specs.Limits.{maxNodes}
 use Rattle.session.specs.Trigger.{Trigger, Graph, Marks, states, nodes, linked, admits, agrees, edge, pattern}
 use Rattle.session.specs.Layout.{triggerOf, graphOf, marksOf, inLayout}
 use Rattle.session.proofs.Decoded.{LayoutFacts, layout-facts}

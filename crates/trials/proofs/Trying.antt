@@ -1,10 +1,9 @@
 -- The trial set of a session: the fresh pairs, the seeds, and what is grown from them.
-use Prim.Native.Nat.{ℕ, _+_, _*_, _/_, _%_, _<_}
-use native.Mathlib.Nat.{mod-lt}
+use Prim.Native.Nat.{ℕ, _*_, _/_, _%_, _<_}
 use native.Mathlib.Omega.{arith}
-use mathlib.Core.Path.{_≡_, refl, sym, _∙_, ap, ap₂, fun-ext, subst}
+use mathlib.Core.Path.{_≡_, sym, _∙_, ap, ap₂, fun-ext, subst}
 use mathlib.Core.Logic.{⊎-elim}
-use mathlib.Core.Bool.{Bool, true, false, not, _&&_, _||_}
+use mathlib.Core.Bool.{Bool, true, not, _&&_}
 use mathlib.Core.List.{List}
 use lib.Dec.{eqb, ltb}
 use lib.ListN.{length, getD, set, take, drop}
@@ -14,7 +13,7 @@ use borrow.Author.Tests.{ltb-true, lt-ltb, eqb-true, eqb-false, eq-eqb}
 use Rattle.simulation.specs.Sets.{Set, In, minus, also, anyBelow}
 use Rattle.simulation.specs.System.{System, closure}
 use Rattle.simulation.specs.Pattern.{Pattern, pair, paired, system}
-use Rattle.simulation.proofs.Sets.{clash, split, same, refuted, and-make, and-l, and-r, or-r, any-make, any-take}
+use Rattle.simulation.proofs.Sets.{split, same, and-make, and-l, and-r, or-r, any-make, any-take}
 use Rattle.simulation.proofs.System.{extensional, closure-seed, closure-step, closure-least}
 use Rattle.simulation.proofs.Pattern.{pair-inside, paired-pair, node-inside, state-inside}
 use Rattle.bits.specs.Word.{members}
@@ -26,12 +25,11 @@ use Rattle.session.proofs.Decoded.{LayoutFacts, layout-facts}
 use Rattle.links.specs.Links.{linksTo}
 use Rattle.pair_tables.specs.Tables.{marked, Admitted}
 use Rattle.worklist.specs.Waiting.{waits}
-use Rattle.refinement.specs.Refining.{patternOf}
 use Rattle.growth.specs.Growth.{Grown}
 use Rattle.promises.specs.Standing.{pairsOf, fresh, trialSet}
 use Rattle.refinement.proofs.Systems.{same-states, closure-pattern}
 use Rattle.session_parts.proofs.Parts.{held-marks}
-use Rattle.editing.specs.Steps.{Holds, markedPairs, freshPairs, seedsOf}
+use Rattle.editing.specs.Steps.{Holds, freshPairs, seedsOf}
 
 module _ (xs : List ℕ) (h : inLayout xs ≡ true) where
   abbrev t : Trigger

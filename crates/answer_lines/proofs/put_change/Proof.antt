@@ -1,7 +1,7 @@
 -- The kind, the eight digits and the line feed.
 use borrow.Author.Needs.{needs}
 use native.Mathlib.Omega.{arith}
-use mathlib.Core.List.{List, [], _∷_, _++_, append-assoc}
+use mathlib.Core.List.{[], _∷_, _++_, append-assoc}
 use mathlib.Core.Path.{_≡_, _∙_, ap, ap₂}
 use lib.IntN.{ℤ}
 use mir.Syntax.{w32}

@@ -1,8 +1,7 @@
 -- One number after the other, and the line feed.
-use Prim.Native.Nat.{ℕ, _+_}
 use borrow.Author.Needs.{needs}
 use native.Mathlib.Omega.{arith}
-use mathlib.Core.List.{List, [], _∷_, _++_, append-assoc}
+use mathlib.Core.List.{_++_}
 use Rattle.listing.proofs.Placing.{placed-append}
 use Rattle.frames.specs.Digits.{digits}
 use Rattle.frames.proofs.Written.{digits-long, pair-long, room-after}

@@ -1,8 +1,7 @@
 -- The kind, the number and the line feed.
-use Prim.Native.Nat.{ℕ, _+_}
 use borrow.Author.Needs.{needs}
 use native.Mathlib.Omega.{arith}
-use mathlib.Core.List.{List, [], _∷_, _++_, append-assoc}
+use mathlib.Core.List.{[], _∷_, _++_, append-assoc}
 use Rattle.listing.proofs.Placing.{placed-append}
 use Rattle.frames.specs.Digits.{digits}
 use Rattle.frames.specs.Outputs.{refusal}

@@ -1,12 +1,11 @@
 -- The kind and the firing, then the two counts.
-use Prim.Native.Nat.{ℕ, _+_}
 use borrow.Author.Needs.{needs}
 use native.Mathlib.Omega.{arith}
-use mathlib.Core.List.{List, [], _∷_, _++_, append-assoc}
+use mathlib.Core.List.{[], _∷_, _++_}
 use Rattle.listing.specs.Placed.{Placed}
 use Rattle.listing.proofs.Placing.{placed-append}
 use Rattle.frames.specs.Digits.{digits}
-use mathlib.Core.Bool.{Bool, cond}
+use mathlib.Core.Bool.{cond}
 use Rattle.frames.specs.Outputs.{reportLine}
 use Rattle.frames.proofs.Written.{bool-number, pair-long, four-parts, room-after}
 use Rattle.answer_lines.proofs.put_report.Statement.{statement}

@@ -1,9 +1,8 @@
 -- Two digits a state, one after the other.
-use Prim.Native.Nat.{_+_, _-_}
+use Prim.Native.Nat.{_-_}
 use borrow.Author.Needs.{needs}
 use native.Mathlib.Omega.{arith}
-use mathlib.Core.Path.{_≡_, sym, _∙_, ap}
-use lib.ListN.{length, getD}
+use lib.ListN.{length}
 use Rattle.frames.specs.Digits.{digits}
 use Rattle.frames.proofs.Written.{digits-long}
 use Rattle.frames.proofs.Listed.{Listing, listing-start, listing-next, listing-long, listing-more, listing-end}

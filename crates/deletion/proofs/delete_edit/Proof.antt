@@ -1,7 +1,6 @@
 -- The edge is taken out; the marks stay where they are steady, or those that cease are taken away.
-use native.Mathlib.Omega.{arith}
 use Prim.Native.Nat.{_<_}
-use mathlib.Core.Path.{_≡_, refl, sym, _∙_, ap}
+use mathlib.Core.Path.{_≡_, sym, _∙_, ap}
 use mathlib.Core.Bool.{true}
 use lib.ListN.{length, take, drop}
 use Rattle.session.specs.Trigger.{nodes}

@@ -2,10 +2,9 @@
 use native.Mathlib.Omega.{arith}
 use Prim.Native.Nat.{ℕ, _<_}
 use mathlib.Core.List.{List}
-use mathlib.Core.Path.{_≡_, refl, sym, ap, subst, _∙_}
+use mathlib.Core.Path.{_≡_, refl, sym, ap, _∙_}
 use lib.ListN.{length, getD}
 use Rattle.simulation.specs.Sets.{Set}
-use Rattle.bits.specs.Word.{members}
 use Rattle.session.specs.Layout.{triggerOf, graphOf}
 use Rattle.session.proofs.Decoded.{layout-facts}
 use Rattle.refinement.specs.Refining.{unmetOf}

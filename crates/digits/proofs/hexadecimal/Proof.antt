@@ -4,7 +4,6 @@ use borrow.Author.Needs.{needs}
 use borrow.Author.Tests.{lt-ltb, le-ltb}
 use native.Mathlib.Omega.{arith}
 use mathlib.Core.Logic.{⊎-elim}
-use mathlib.Core.Path.{_∙_, sym, ap}
 use lib.Dec.{ltb}
 use lib.ListN.{length, getD}
 use Rattle.simulation.specs.Sets.{Set}

@@ -2,8 +2,7 @@
 use Prim.Native.Nat.{_-_}
 use borrow.Author.Needs.{needs}
 use native.Mathlib.Omega.{arith}
-use mathlib.Core.Path.{_∙_, sym, ap}
-use lib.ListN.{length, getD}
+use lib.ListN.{length}
 use Rattle.frames.proofs.Hex.{Reading, digit-fits, reading-start, reading-more, reading-end, reading-fits}
 use Rattle.digits.proofs.number.Statement.{statement}
 use Rattle.digits.proofs.number.Tie as tie

@@ -1,5 +1,4 @@
 -- A refusal writes nothing; else the edit proper, and its report: no change, or those from the marks that were saved.
-use native.Mathlib.Omega.{arith}
 use Prim.Native.Nat.{ℕ}
 use mathlib.Core.Path.{_≡_, refl, sym, _∙_, ap}
 use mathlib.Core.Bool.{true}

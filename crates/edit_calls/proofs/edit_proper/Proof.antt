@@ -1,5 +1,4 @@
 -- Each kind by its own function.
-use native.Mathlib.Omega.{arith}
 use borrow.Author.Needs.{needs}
 use Rattle.edit_calls.proofs.edit_proper.Statement.{statement}
 use Rattle.edit_calls.proofs.edit_proper.Tie as tie

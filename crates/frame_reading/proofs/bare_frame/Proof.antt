@@ -1,5 +1,4 @@
 -- No field.
-use borrow.Author.Needs.{needs}
 use Rattle.frames.proofs.Kinded.{bare-wrong, run-right, walk-right}
 use Rattle.frame_reading.proofs.bare_frame.Statement.{statement}
 use Rattle.frame_reading.proofs.bare_frame.Tie as tie

@@ -1,10 +1,7 @@
 -- Three fields of four digits.
 use borrow.Author.Needs.{needs}
 use native.Mathlib.Omega.{arith}
-use Prim.Native.Nat.{ℕ}
-use mathlib.Core.Path.{_≡_, sym, _∙_, ap}
 use lib.ListN.{drop, length-take}
-use Rattle.frames.specs.Frames.{state}
 use Rattle.frames.proofs.Kinded.{hex-part, state-wrong, state-right}
 use Rattle.frame_reading.proofs.state_frame.Statement.{statement}
 use Rattle.frame_reading.proofs.state_frame.Tie as tie

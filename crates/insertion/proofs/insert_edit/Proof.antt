@@ -1,8 +1,7 @@
 -- The edge is put in; where there are seeds, the trial set is tried, and what begins to stand is stored beside the marks.
-use native.Mathlib.Omega.{arith}
 use Prim.Native.Nat.{ℕ, _<_}
 use mathlib.Core.Path.{_≡_, refl, sym, _∙_, ap}
-use mathlib.Core.Bool.{Bool, true, _||_}
+use mathlib.Core.Bool.{true, _||_}
 use mathlib.Core.List.{List}
 use lib.ListN.{length}
 use Rattle.simulation.specs.Sets.{Set}

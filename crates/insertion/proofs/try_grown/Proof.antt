@@ -1,13 +1,11 @@
 -- One index serves growth and refinement.
 use native.Mathlib.Omega.{arith}
-use Prim.Native.Nat.{ℕ}
-use mathlib.Core.Path.{_≡_, refl, _∙_}
-use Rattle.bits.specs.Word.{members}
+use mathlib.Core.Path.{refl}
 use Rattle.session.specs.Layout.{triggerOf, graphOf, marksOf}
 use Rattle.session.proofs.Decoded.{Bounded, LayoutFacts, layout-limits, layout-facts}
 use Rattle.pair_tables.proofs.Zeros.{zeros}
 use Rattle.promises.specs.Standing.{trialSet}
-use Rattle.editing.specs.Steps.{Holds, seedsOf}
+use Rattle.editing.specs.Steps.{Holds}
 use borrow.Author.Needs.{needs}
 use Rattle.insertion.proofs.try_grown.Statement.{statement}
 use Rattle.insertion.proofs.try_grown.Tie as tie

@@ -1,7 +1,7 @@
 -- `graph_fits` meets its contract: each test is made where those before it hold.
 use Prim.Native.Nat.{_+_, _-_}
 use Rattle.session.specs.Layout.{part, below}
-use Rattle.session.specs.Tests.{allNamed, graphTest}
+use Rattle.session.specs.Tests.{graphTest}
 use Rattle.simulation.specs.Ordered.{ascends}
 use borrow.Author.Needs.{needs}
 use mathlib.Core.Path.{_≡_, sym, _∙_}

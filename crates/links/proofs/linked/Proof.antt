@@ -5,10 +5,8 @@ use Rattle.links.proofs.LinkSets.{Linking, linking-start, linking-next,
 use Rattle.simulation.proofs.Loops.{without-falls}
 use Rattle.simulation.specs.Sets.{Set, count, without}
 use borrow.Author.Needs.{needs}
-use lib.ListN.{length}
-use mathlib.Core.Bool.{Bool, _&&_}
-use mathlib.Core.Path.{_≡_, ap, ap₂, _∙_}
-use native.Mathlib.Omega.{arith}
+use mathlib.Core.Bool.{_&&_}
+use mathlib.Core.Path.{_≡_, ap, _∙_}
 use Rattle.links.proofs.linked.Statement.{statement}
 use Rattle.links.proofs.linked.Tie as tie
 

@@ -1,6 +1,5 @@
 -- `unlinked` meets its contract: of the states that were taken out of `rest`, `left` has those without such a link.
 use borrow.Author.Needs.{needs}
-use native.Mathlib.Omega.{arith}
 use mathlib.Core.Logic.{⊎-elim}
 use mathlib.Core.Bool.{_&&_}
 use mathlib.Core.Path.{_≡_, sym, ap, subst, _∙_}

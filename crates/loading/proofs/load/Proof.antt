@@ -1,7 +1,7 @@
 -- A refusal writes nothing; else the sections are written, solved, and the marks, the list and the answer made.
 use borrow.Author.Needs.{needs}
 use native.Mathlib.Omega.{arith}
-use Prim.Native.Nat.{ℕ, _^_}
+use Prim.Native.Nat.{_^_}
 use mathlib.Core.Path.{_≡_, refl, sym, _∙_, ap}
 use mathlib.Core.Bool.{true}
 use lib.ListN.{length, replicate}

@@ -1,5 +1,4 @@
 -- Without an index the looks are few; where nodes wait after them, the refinement goes on with one.
-use native.Mathlib.Omega.{arith}
 use mathlib.Core.Path.{refl}
 use Rattle.refinement.proofs.Settling.{refining-end, refining-then}
 use borrow.Author.Needs.{needs}

@@ -2,7 +2,7 @@
 use Rattle.refinement.proofs.Turns.{sound-below, turned-cleared, turned-stayed}
 use borrow.Author.Needs.{needs}
 use lib.ListN.{length-set}
-use mathlib.Core.Path.{sym, ap, _∙_}
+use mathlib.Core.Path.{sym, _∙_}
 use native.Mathlib.Omega.{arith}
 use Rattle.refinement.proofs.turn.Statement.{statement}
 use Rattle.refinement.proofs.turn.Tie as tie

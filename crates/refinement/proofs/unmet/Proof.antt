@@ -4,7 +4,7 @@ use Rattle.refinement.specs.Refining.{carried}
 use Rattle.simulation.specs.Sets.{Set}
 use borrow.Author.Needs.{needs}
 use mathlib.Core.Bool.{Bool, not, _&&_}
-use mathlib.Core.Path.{_≡_, ap, ap₂, fun-ext, _∙_}
+use mathlib.Core.Path.{ap, ap₂, fun-ext, _∙_}
 use Rattle.refinement.proofs.unmet.Statement.{statement}
 use Rattle.refinement.proofs.unmet.Tie as tie
 

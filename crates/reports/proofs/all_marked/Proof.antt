@@ -1,6 +1,5 @@
 -- The numbers below `states` are all gathered.
 use borrow.Author.Needs.{needs}
-use native.Mathlib.Omega.{arith}
 use mathlib.Core.Path.{_∙_, ap}
 use Rattle.simulation.specs.Sets.{Set, allBelow}
 use Rattle.bits.proofs.Tests.{within-below}

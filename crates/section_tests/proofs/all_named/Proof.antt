@@ -1,5 +1,5 @@
 -- `all_named` meets its contract: the last start is tested, and a fault is noted where an edge's end is no node.
-use Prim.Native.Nat.{ℕ, _-_, _/_, _%_, _≤_}
+use Prim.Native.Nat.{_-_, _%_}
 use Rattle.simulation.proofs.Folds.{Folded, fold-start, fold-pass, fold-fault, fold-end}
 use Rattle.section_tests.proofs.Named.{ending, none-named, start-fails, ends-decide}
 use Rattle.simulation.specs.Sets.{Set}
@@ -7,7 +7,7 @@ use borrow.Author.Needs.{needs}
 use borrow.Author.Tests.{lt-ltb, le-ltb}
 use lib.ListN.{length, getD}
 use mathlib.Core.Logic.{⊎-elim}
-use mathlib.Core.Path.{_≡_, sym, _∙_}
+use mathlib.Core.Path.{_∙_}
 use native.Mathlib.Omega.{arith}
 use Rattle.section_tests.proofs.all_named.Statement.{statement}
 use Rattle.section_tests.proofs.all_named.Tie as tie

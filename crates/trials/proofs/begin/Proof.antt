@@ -1,8 +1,6 @@
 -- The trials are refined beside the marks, from every node that has one, to the end, since there is an index.
 use native.Mathlib.Omega.{arith}
-use mathlib.Core.Bool.{not}
-use mathlib.Core.Path.{_≡_, refl, sym, _∙_, ap}
-use lib.Dec.{eqb}
+use mathlib.Core.Path.{refl, sym, _∙_, ap}
 use lib.ListN.{length, getD, replicate}
 use lib.Seq.{length-take-le}
 use borrow.Author.Tests.{ne-eqb}

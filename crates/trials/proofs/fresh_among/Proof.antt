@@ -3,7 +3,7 @@ use Rattle.trials.proofs.Lonely.{fresh-met}
 use Rattle.session_parts.proofs.Parts.{marks-long}
 use Rattle.session.proofs.Decoded.{layout-facts}
 use borrow.Author.Needs.{needs}
-use mathlib.Core.Path.{_≡_, _∙_}
+use mathlib.Core.Path.{_∙_}
 use native.Mathlib.Omega.{arith}
 use Rattle.trials.proofs.fresh_among.Statement.{statement}
 use Rattle.trials.proofs.fresh_among.Tie as tie

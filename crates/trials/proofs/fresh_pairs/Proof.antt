@@ -1,7 +1,7 @@
 -- What is admitted, less the marks.
 use borrow.Author.Needs.{needs}
-use mathlib.Core.Path.{_≡_, sym, _∙_, ap}
-use lib.ListN.{length, getD}
+use mathlib.Core.Path.{sym, _∙_, ap}
+use lib.ListN.{length}
 use Rattle.session.proofs.Decoded.{layout-facts}
 use Rattle.session_parts.proofs.Parts.{marks-long}
 use Rattle.trials.proofs.Trying.{fresh-held}

@@ -1,10 +1,6 @@
 -- The states that admit the edge's ends, and the links between them.
 use borrow.Author.Needs.{needs}
 use native.Mathlib.Omega.{arith}
-use mathlib.Core.Path.{_≡_, sym, ap}
-use Prim.Native.Nat.{ℕ, _<_}
-use mathlib.Core.List.{List}
-use lib.ListN.{length}
 use Rattle.session.proofs.Decoded.{LayoutFacts, layout-facts}
 use Rattle.session_parts.proofs.Parts.{marks-long}
 use Rattle.trials.proofs.Trying.{seeds-are}

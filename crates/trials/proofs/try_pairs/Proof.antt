@@ -1,8 +1,8 @@
 -- The seeds are fresh, and the trial set is grown from them.
 use borrow.Author.Needs.{needs}
 use native.Mathlib.Omega.{arith}
-use mathlib.Core.Path.{_≡_, refl, sym, _∙_, ap}
-use lib.ListN.{length, getD, set, length-set, replicate}
+use mathlib.Core.Path.{refl, _∙_}
+use lib.ListN.{length-set, replicate}
 use Rattle.session.proofs.Decoded.{Bounded, LayoutFacts, layout-limits, layout-facts}
 use Rattle.pair_tables.proofs.Zeros.{zeros}
 use Rattle.refinement.proofs.Systems.{held-sound}

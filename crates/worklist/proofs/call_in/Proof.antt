@@ -1,6 +1,5 @@
 -- The index is one where it is not empty.
 use borrow.Author.Needs.{needs}
-use native.Mathlib.Omega.{arith}
 use Rattle.worklist.proofs.call_in.Statement.{statement}
 use Rattle.worklist.proofs.call_in.Tie as tie
 

@@ -1,12 +1,10 @@
 -- `call_one` meets its contract: the start is put in where the edge ends at the node and the table passes.
-use Prim.Native.Nat.{ℕ}
 use Rattle.bits.specs.Word.{overlaps}
 use Rattle.worklist.proofs.CalledIn.{one-in, one-out, ends-elsewhere, start-fails}
 use Rattle.simulation.specs.Sets.{Set}
 use borrow.Author.Needs.{needs}
 use lib.ListN.{getD}
-use mathlib.Core.Path.{_≡_, sym, _∙_}
-use native.Mathlib.Omega.{arith}
+use mathlib.Core.Path.{sym, _∙_}
 use Rattle.worklist.proofs.call_one.Statement.{statement}
 use Rattle.worklist.proofs.call_one.Tie as tie
 
