@@ -12,7 +12,7 @@
    Nothing else is asked: every number, length and content is tested, and a call that breaks a rule is refused.
 
    A refusal has the number of the first rule broken, in the order of the rules below, and leaves every byte as it was.
-   No call keeps a pointer, allocates, or uses any memory but the stack and what it is given. */
+   No call keeps a pointer, allocates, or uses any memory but the stack (TRIGGER_STACK_BYTES) and what it is given. */
 #ifndef TRIGGER_ENGINE_H
 #define TRIGGER_ENGINE_H
 
@@ -34,6 +34,31 @@ enum {
     TRIGGER_CHANGE_PLACES = 8192,
     /* the places that trigger_order writes */
     TRIGGER_ORDER_PLACES = 16
+};
+
+/* The stack of each call, in bytes: the greatest that tests/c/stack.c measured on a painted stack, on x86-64, of the archive as the toolchain compiles it.
+   Counted from the caller's call on: the arguments on the stack, the return address, and what the call writes below them. memset, memcpy and memmove of the
+   C library are counted with it; each took no more than its return address there. The figures are measured over the inputs of that test, up to full
+   sessions, and not proved. For another machine, compiler or C library they have to be measured again. What an interrupt puts on the same stack is not in them.
+   No function of the engine calls itself, directly or through others, but one: the visit of the depth-first walk, which only trigger_order uses. A visit
+   begins only at a state not yet visited, and the number of states not yet visited falls with each visit in a visit, by its proof
+   (crates/walk_order/proofs): at most 16 are under way at once, the first one counted. */
+enum {
+    TRIGGER_STACK_SESSION_WORDS = 8,
+    TRIGGER_STACK_CHANGE_PLACES = 8,
+    /* an accepted load: one state and no node needed as much as a full one */
+    TRIGGER_STACK_LOAD = 19288,
+    /* a session with marks, whose layout is tested: a refused insertion needed as much as an accepted one */
+    TRIGGER_STACK_INSERT = 19000,
+    /* a ring opened: its edges are indexed */
+    TRIGGER_STACK_DELETE = 29704,
+    /* these three: a session with marks, whose layout is tested */
+    TRIGGER_STACK_MATCHES = 2168,
+    TRIGGER_STACK_FIRES = 2152,
+    /* the deepest walk, 16 states in a chain, needed less: 1,952 */
+    TRIGGER_STACK_ORDER = 2280,
+    /* the greatest of these */
+    TRIGGER_STACK_BYTES = TRIGGER_STACK_DELETE
 };
 
 /* The rules. A call is refused with the first that it breaks. */
