@@ -13,7 +13,7 @@ use borrow.Author.Tests.{eq-eqb, ne-eqb}
 use Rattle.simulation.proofs.Sets.{clash, and-none}
 use Rattle.simulation.proofs.Search.{lt-or-le}
 use Rattle.frames.specs.Digits.{hexadecimal, number}
-use Rattle.frames.specs.Frames.{Frame, nothing, spoken, frameOf}
+use Rattle.frames.specs.Frames.{nothing, spoken, frameOf}
 use Rattle.frames.specs.Lines.{linesAfter, lineEnds, lineIn, kept, frontWith, Keeps, Gathers}
 
 -- ---- the front of a line tells its frame

@@ -1,27 +1,22 @@
 -- The input in blocks: however it is cut, and whatever is lent to each call, the outputs are those of its lines.
 use Prim.Native.Nat.{ℕ, suc, _+_, _<_, _≤_}
 use native.Mathlib.Omega.{arith}
-use native.Mathlib.Numerals.{add-one}
 use mathlib.Core.Path.{_≡_, refl, sym, _∙_, ap, ap₂, subst}
 use mathlib.Core.Logic.{_⊎_, inl, ⊎-elim}
-use mathlib.Core.Bool.{Bool, true, false, _||_}
+use mathlib.Core.Bool.{Bool, true, false}
 use mathlib.Core.List.{List, [], _∷_, _++_, map, append-nil, append-assoc}
-use lib.Dec.{ltb}
 use lib.IntN.{ℤ}
 use lib.ListN.{length, take, drop, length-take}
 use lib.Seq.{length-take-le, take-append-add, drop-drop, drop-length}
-use borrow.Author.Tests.{ltb-false}
-use Rattle.simulation.proofs.Sets.{or-false-l, or-false-r}
 use Rattle.session.specs.Limits.{maxChanges}
-use Rattle.promises.specs.Answers.{Outcome, accepted, refused}
 use Rattle.promises.specs.Rules.{rule, verdict}
-use Rattle.promises.proofs.Verdicts.{accepts-or, verdict-pass, verdict-skip}
+use Rattle.promises.proofs.Verdicts.{accepts-or}
 use Rattle.frames.specs.declared.Progress.{Progress}
 use Rattle.frames.specs.declared.Taken.the-variants as T
 use Rattle.frames.specs.Frames.{Frame, frameOf}
-use Rattle.frames.specs.Lines.{linesAfter, lines, lineEnds, lineIn, kept, frontWith, Gathers}
+use Rattle.frames.specs.Lines.{linesAfter, lineIn, kept, Gathers}
 use Rattle.frames.specs.Outputs.{each}
-use Rattle.frames.specs.Machine.{Memory, memory, outputSize, tooSmall, miscounted, memoryRules, Answers, Stepped}
+use Rattle.frames.specs.Machine.{Memory, memory, outputSize, Stepped}
 use Rattle.frames.specs.Moments.{start, output, program}
 use Rattle.frames.specs.Program.{Line, lent, LineByLine, ended, taken, printedBy, bytesOf, Fresh, Whole}
 use Rattle.frames.specs.Blocks.{inputRules, Point, point, outputAfter, withOutput, GoesOn, Walks, stops, begins, answers, BlockTaken, InputEnded, Calls, block, end}
@@ -54,7 +49,7 @@ fitting m line n left s = let p = rules-passed m (unrefused m line n left s) in 
 module _ (bytes more output : List ℕ) where
   -- what a point of the walk comes to, with what follows the block
   abbrev From : Point → List ℕ → Type 0
-  From p begun = Taking (p .memory) begun (drop (p .at) bytes ++ more) (take (p .given) (p .memory .out)) output
+  From p begun = Taking (p .memory) begun (drop (p .at) bytes ++ more) (take (p .written) (p .memory .out)) output
 
   module _ (p : Point) (begun front' : List ℕ) (begun' at' : ℕ) (like : Like (take (p .begun) (p .front)) begun) (long : kept ≤ length (p .front)) where
     abbrev rest : List ℕ
@@ -69,7 +64,7 @@ module _ (bytes more output : List ℕ) where
 
     -- no line ends: the rest of the block is begun too
     from-open : Gathers (p .front) (p .begun) bytes (p .at) front' begun' at' false
-        → From (point front' begun' at' (p .given) (p .memory)) (begun ++ lineIn (drop (p .at) bytes)) → From p begun
+        → From (point front' begun' at' (p .written) (p .memory)) (begun ++ lineIn (drop (p .at) bytes)) → From p begun
     from-open g t =
         let none = sym (g .told) in
         let over : drop at' bytes ≡ [] = ap (λ (k : ℕ). drop k bytes) (g .place) ∙ drop-length bytes in
@@ -86,26 +81,26 @@ module _ (bytes more output : List ℕ) where
 
     -- a line ends
     from-line : (n : ℕ) (left : Memory) → GoesOn bytes p → Gathers (p .front) (p .begun) bytes (p .at) front' begun' at' true
-        → Stepped (outputAfter (p .given) (p .memory)) (take begun' front') (T.Written n) left
-        → From (point front' 0 at' (p .given + n) (withOutput (take (p .given) (p .memory .out)) left)) [] → From p begun
+        → Stepped (outputAfter (p .written) (p .memory)) (take begun' front') (T.Written n) left
+        → From (point front' 0 at' (p .written + n) (withOutput (take (p .written) (p .memory .out)) left)) [] → From p begun
     unfolding each
     from-line n left on g s t =
         let m = p .memory in
         let l : Line =
-        record { bytes = take begun' front'; room = m .room; out = drop (p .given) (m .out); answer = T.Written n; left = left } in
-        let fit = fitting (outputAfter (p .given) m) (take begun' front') n left s in
+        record { bytes = take begun' front'; room = m .room; out = drop (p .written) (m .out); answer = T.Written n; left = left } in
+        let fit = fitting (outputAfter (p .written) m) (take begun' front') n left s in
         let ls = t .taken-lines in
-        let long : length (take (p .given) (m .out)) ≡ p .given = length-take-le (p .given) (m .out) (omega (arith, on .1)) in
-        let printed : take (p .given + n) (take (p .given) (m .out) ++ left .out) ≡ take (p .given) (m .out) ++ take n (left .out) =
-        ap (λ (k : ℕ). take (k + n) (take (p .given) (m .out) ++ left .out)) (sym long) ∙ take-append-add (take (p .given) (m .out)) (left .out) n in
+        let long : length (take (p .written) (m .out)) ≡ p .written = length-take-le (p .written) (m .out) (omega (arith, on .1)) in
+        let printed : take (p .written + n) (take (p .written) (m .out) ++ left .out) ≡ take (p .written) (m .out) ++ take n (left .out) =
+        ap (λ (k : ℕ). take (k + n) (take (p .written) (m .out) ++ left .out)) (sym long) ∙ take-append-add (take (p .written) (m .out)) (left .out) n in
         let place : drop at' bytes ≡ drop (suc (length (lineIn rest))) rest =
         ap (λ (k : ℕ). drop k bytes) (g .place ∙ (let e : p .at + length (lineIn rest) + 1 ≡ p .at + suc (length (lineIn rest)) = omega arith in e))
         ∙ sym (drop-drop (suc (length (lineIn rest))) (p .at) bytes) in
         record {
           taken-lines = l ∷ ls;
-          goes = taken (fit .0) (fit .1) s (lend left (left .room) (take (p .given) (m .out) ++ left .out) ls (t .goes));
+          goes = taken (fit .0) (fit .1) s (lend left (left .room) (take (p .written) (m .out) ++ left .out) ls (t .goes));
           prints =
-              sym (append-assoc (take (p .given) (m .out)) (take n (left .out)) (each printedBy ls))
+              sym (append-assoc (take (p .written) (m .out)) (take n (left .out)) (each printedBy ls))
               ∙ ap (λ (w : List ℕ). w ++ each printedBy ls) (sym printed)
               ∙ t .prints;
           frames =

@@ -1,14 +1,13 @@
 -- The states and nodes read so far, with one more.
-use Prim.Native.Nat.{ℕ, suc, _+_, _-_, _<_, _≤_}
+use Prim.Native.Nat.{ℕ, _+_, _-_, _<_, _≤_}
 use native.Mathlib.Numerals.{add-one}
 use native.Mathlib.Omega.{arith}
-use mathlib.Core.Path.{_≡_, refl, sym, _∙_, ap, ap₂, subst}
+use mathlib.Core.Path.{_≡_, _∙_, ap, ap₂, subst}
 use mathlib.Core.List.{List, [], _∷_, _++_}
 use lib.ListN.{length, getD, set, take, drop, length-set, length-drop}
 use lib.Seq.{getD-set-same, getD-set-other, take-set-le, drop-set-lt, drop-set-add, take-suc-set}
 use Rattle.session.specs.Limits.{maxStates, maxNodes}
 use Rattle.session.specs.Layout.{part}
-use Rattle.promises.specs.Rules.{given}
 use Rattle.frames.specs.Machine.{
   Memory,
   linksIn,

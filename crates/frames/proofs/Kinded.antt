@@ -1,7 +1,7 @@
 -- What a line says, kind by kind.
 use Prim.Native.Nat.{ℕ, _+_, _<_, _≤_}
 use native.Mathlib.Omega.{arith}
-use mathlib.Core.Path.{_≡_, refl, sym, _∙_, ap}
+use mathlib.Core.Path.{_≡_, refl, _∙_, ap}
 use mathlib.Core.Bool.{Bool, true, false, not, _&&_, cond}
 use mathlib.Core.List.{List}
 use lib.Dec.{ltb, leb}
@@ -11,7 +11,7 @@ use borrow.Author.Tests.{eq-eqb, ne-eqb, le-leb, lt-leb, lt-ltb, not-true}
 use Rattle.simulation.proofs.Sets.{all-make}
 use Rattle.promises.specs.Rules.{insertion, deletion}
 use Rattle.frames.specs.Digits.{digit, hexadecimal, number}
-use Rattle.frames.specs.Frames.{Frame, state, node, run, edit, walk, nothing, field, spoken, frameOf}
+use Rattle.frames.specs.Frames.{state, node, run, edit, walk, nothing, field, spoken, frameOf}
 use Rattle.frames.proofs.Hex.{digit-fits}
 
 -- a part of digits is of digits

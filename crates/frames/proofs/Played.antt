@@ -4,14 +4,14 @@ use native.Mathlib.Omega.{arith}
 use mathlib.Core.Path.{_≡_, refl, sym, _∙_, ap, ap₂, subst}
 use mathlib.Core.Logic.{⊎-elim}
 use mathlib.Core.Bool.{Bool, true, false, cond}
-use mathlib.Core.List.{List, [], _∷_, _++_}
-use lib.Dec.{leb, eqb, ltb}
+use mathlib.Core.List.{List, _++_}
+use lib.Dec.{leb, eqb}
 use lib.IntN.{ℤ}
-use lib.ListN.{length, getD, set, take, drop, length-set, length-drop}
+use lib.ListN.{length, getD, set, drop, length-set, length-drop}
 use lib.Seq.{getD-set-same, getD-set-other, length-take-le}
-use borrow.Author.Tests.{eq-eqb, ne-eqb, le-ltb, leb-true, leb-false}
+use borrow.Author.Tests.{ne-eqb, leb-false}
 use Rattle.session.specs.Limits.{maxStates, maxNodes, maxChanges, fixedSize}
-use Rattle.promises.specs.Answers.{Outcome, Summary, accepted, refused, outcome, told, toldOrder, handedBack}
+use Rattle.promises.specs.Answers.{Outcome, Summary, accepted, refused, outcome, told, handedBack}
 use Rattle.promises.specs.Rules.{verdict, Given, givenTrigger, givenGraph, Kind, loadRules}
 use Rattle.promises.specs.Promises.{loadList}
 use Rattle.promises.specs.Model.{Model, begun, modelRules, step, editing, loadSummary, editList, editSummary}
@@ -25,7 +25,6 @@ use Rattle.frames.specs.Outputs.{refusal, answered, ordered, walked}
 use Rattle.frames.specs.Machine.{
   Memory,
   memory,
-  outputSize,
   statesRead,
   nodesRead,
   Ready,
@@ -42,7 +41,7 @@ use Rattle.frames.specs.Machine.{
   After,
 }
 use Rattle.frames.specs.Moments.{Moment, reading, running, reply, broken, printed, next}
-use Rattle.frames.specs.Program.{Holds}
+use Rattle.frames.specs.Program.{AtMoment}
 use Rattle.frames.proofs.Kept.{state-moment, state-read, state-ready, node-moment, node-read, node-ready}
 
 -- ---- what a reply prints, and the moment after it
@@ -59,14 +58,14 @@ module _ (p : Moment) (f : Frame) where
 -- ---- the machine holds a moment
 
 -- it does not depend on the change room and the output
-pub holds-same : (q : Moment) (m : Memory) (room : List ℤ) (out : List ℕ) → Holds q m → Holds q (memory (m .counts) (m .words) (m .session) room out)
+pub holds-same : (q : Moment) (m : Memory) (room : List ℤ) (out : List ℕ) → AtMoment q m → AtMoment q (memory (m .counts) (m .words) (m .session) room out)
 unfolding readSoFar
 holds-same q m room out h = by q h
   where
     ready : Ready m → Ready (memory (m .counts) (m .words) (m .session) room out)
     ready r = record { counts = r .counts; words = r .words; session = r .session; few-states = r .few-states; few-nodes = r .few-nodes }
 
-    by : (q : Moment) → Holds q m → Holds q (memory (m .counts) (m .words) (m .session) room out)
+    by : (q : Moment) → AtMoment q m → AtMoment q (memory (m .counts) (m .words) (m .session) room out)
     by (reading x) h = (ready (h .0), h .1, h .2)
     by (running b) h = (ready (h .0), h .1, h .2)
 
@@ -74,27 +73,27 @@ holds-same q m room out h = by q h
 pub record Told (p : Moment) (f : Frame) (m : Memory) (n : ℕ) (m' : Memory) : Type 0 where
   pub many : n ≡ length (printed p f)
   pub out : m' .out ≡ printed p f ++ drop (length (printed p f)) (m .out)
-  pub holds : Holds (next p f) m'
+  pub holds : AtMoment (next p f) m'
   pub untouched : (broken p f ≡ 0 → ⊥) → m' ≡ printing (refusal (broken p f)) m
 
 -- by the bytes printed, the moment after them, and the memory that is left beside them
 told-by : (p : Moment) (f : Frame) (m : Memory) (n : ℕ) (m' : Memory) (bytes : List ℕ) (q : Moment) (m⁺ : Memory)
-    → (printed p f ≡ bytes) × (next p f ≡ q) → m⁺ .out ≡ m .out → ((broken p f ≡ 0 → ⊥) → m⁺ ≡ m) → Holds q m⁺ → Prints bytes m⁺ n m' → Told p f m n m'
+    → (printed p f ≡ bytes) × (next p f ≡ q) → m⁺ .out ≡ m .out → ((broken p f ≡ 0 → ⊥) → m⁺ ≡ m) → AtMoment q m⁺ → Prints bytes m⁺ n m' → Told p f m n m'
 told-by p f m n m' bytes q m⁺ says same still h w =
     record {
       many = w .many ∙ ap length (sym (says .0));
       out = rw (says .0) (ap (λ (l : Memory). l .out) (w .left) ∙ ap (λ (o : List ℕ). bytes ++ drop (length bytes) o) same);
       holds =
-          subst (λ (q' : Moment). Holds q' m') (sym (says .1))
-          (subst (Holds q) (sym (w .left)) (holds-same q m⁺ (m⁺ .room) (bytes ++ drop (length bytes) (m⁺ .out)) h));
+          subst (λ (q' : Moment). AtMoment q' m') (sym (says .1))
+          (subst (AtMoment q) (sym (w .left)) (holds-same q m⁺ (m⁺ .room) (bytes ++ drop (length bytes) (m⁺ .out)) h));
       untouched = λ bad. w .left ∙ ap₂ printing (sym (says .0) ∙ printed-refused p f (broken p f) refl bad .0) (still bad);
     }
 
-told-refused : (p : Moment) (f : Frame) (m : Memory) (n : ℕ) (m' : Memory) (k : ℕ) → broken p f ≡ k → (k ≡ 0 → ⊥) → Holds p m
+told-refused : (p : Moment) (f : Frame) (m : Memory) (n : ℕ) (m' : Memory) (k : ℕ) → broken p f ≡ k → (k ≡ 0 → ⊥) → AtMoment p m
     → Prints (refusal k) m n m' → Told p f m n m'
 told-refused p f m n m' k e some h w = told-by p f m n m' (refusal k) p m (printed-refused p f k e some) refl (λ bad. refl) h w
 
-told-lines : (p : Moment) (f : Frame) (m : Memory) (n : ℕ) (m' m⁺ : Memory) → broken p f ≡ 0 → m⁺ .out ≡ m .out → Holds (reply p f .moment) m⁺
+told-lines : (p : Moment) (f : Frame) (m : Memory) (n : ℕ) (m' m⁺ : Memory) → broken p f ≡ 0 → m⁺ .out ≡ m .out → AtMoment (reply p f .moment) m⁺
     → Prints (reply p f .lines) m⁺ n m' → Told p f m n m'
 told-lines p f m n m' m⁺ e same h w =
     told-by p f m n m' (reply p f .lines) (reply p f .moment) m⁺ (printed-lines p f e) same (λ bad. absurd (bad e)) h w
@@ -170,7 +169,7 @@ module _ (m : Memory) (r : Ready m) (moment : getD (m .counts) 0 0 ≡ 0) (wide 
   abbrev left : Outcome Summary → Memory
   left o = memory (moved o (m .counts)) (m .words) (m' .session) (m' .room) (m .out)
 
-  loaded : verdict (loadRules fixedSize maxChanges (readSoFar m)) ≡ 0 → Holds (running (begun (readSoFar m))) (left (accepted (loadSummary (readSoFar m))))
+  loaded : verdict (loadRules fixedSize maxChanges (readSoFar m)) ≡ 0 → AtMoment (running (begun (readSoFar m))) (left (accepted (loadSummary (readSoFar m))))
   loaded ok =
       let f = faithful-load given (m .session) (m .room) (w .answer) (m' .session) (m' .room) (w .loads)
       (same-load given (m .session) (m .room) (r .session) wide ∙ ok) in
@@ -192,7 +191,7 @@ module _ (m : Memory) (r : Ready m) (moment : getD (m .counts) 0 0 ≡ 0) (wide 
       let u = w .loads .refuses (λ z. bad (sym (same-load given (m .session) (m .room) (r .session) wide) ∙ z)) in
       ap left (u .answer) ∙ ap₂ (λ (s : List ℕ) (c : List ℤ). memory (m .counts) (m .words) s c (m .out)) (u .session) (u .room)
 
-  turned-back : (k : ℕ) → (verdict (loadRules fixedSize maxChanges (readSoFar m)) ≡ 0 → ⊥) → Holds (reading (readSoFar m)) (left (refused k))
+  turned-back : (k : ℕ) → (verdict (loadRules fixedSize maxChanges (readSoFar m)) ≡ 0 → ⊥) → AtMoment (reading (readSoFar m)) (left (refused k))
   unfolding readSoFar
   turned-back k bad =
       let same = load-untouched given (m .session) (m .room) (r .session) wide (w .answer) (m' .session) (m' .room) (w .loads) bad in (
@@ -214,12 +213,12 @@ module _ (m : Memory) (r : Ready m) (moment : getD (m .counts) 0 0 ≡ 0) (wide 
       (λ ok.
       told-by (reading given) run m n m' _ (running (begun given)) (left (told (w .answer))) (run-lines, printed-lines (reading given) run ok .1) refl
       (λ bad. absurd (bad ok))
-      (subst (λ (o : Outcome Summary). Holds (running (begun given)) (left o)) (sym (says ∙ ap (λ (k : ℕ). outcome k (loadSummary given)) ok)) (loaded ok))
+      (subst (λ (o : Outcome Summary). AtMoment (running (begun given)) (left o)) (sym (says ∙ ap (λ (k : ℕ). outcome k (loadSummary given)) ok)) (loaded ok))
       (w .prints))
       (λ bad.
       told-by (reading given) run m n m' _ (reading given) (left (told (w .answer))) (run-lines, printed-refused (reading given) run v refl bad .1) refl
       still
-      (subst (λ (o : Outcome Summary). Holds (reading given) (left o)) (sym (says ∙ outcome-refused v (loadSummary given) bad)) (turned-back v bad))
+      (subst (λ (o : Outcome Summary). AtMoment (reading given) (left o)) (sym (says ∙ outcome-refused v (loadSummary given) bad)) (turned-back v bad))
       (w .prints))
       (accepts-or v)
 

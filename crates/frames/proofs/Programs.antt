@@ -29,8 +29,8 @@ use Rattle.frames.specs.Program.{
   filled,
   printedBy,
   Fresh,
-  Holds,
-  Demand1,
+  AtMoment,
+  LineDemand1,
   Demanded,
   Whole,
 }
@@ -100,7 +100,7 @@ record Comes (p : Moment) (m : Memory) (l : Line) : Type 1 where
   pub told : Told p (frameOf (l .bytes)) (lent m (l .room) (l .out)) count (l .left)
   pub demanded : Demanded p (frameOf (l .bytes)) l
 
-comes : (p : Moment) (m : Memory) (l : Line) → Holds p m → maxChanges ≤ length (l .room) → outputSize ≤ length (l .out)
+comes : (p : Moment) (m : Memory) (l : Line) → AtMoment p m → maxChanges ≤ length (l .room) → outputSize ≤ length (l .out)
     → Stepped (lent m (l .room) (l .out)) (l .bytes) (l .answer) (l .left) → Comes p m l
 comes (reading x) m l h wide long s =
     let mine = lent m (l .room) (l .out) in
@@ -133,20 +133,20 @@ module _ (p : Moment) (m : Memory) (l : Line) (c : Comes p m l) where
       ∙ ap₂ take (c .told .many) (c .told .out)
       ∙ take-append-seam bytes (drop (length bytes) (l .out))
 
-  line-demand1 : Demand1 p m l
+  line-demand1 : LineDemand1 p m l
   line-demand1 =
       let f = frameOf (l .bytes) in
       record {
         carried = λ ok. (
           line-prints ∙ printed-lines p f ok .0,
-          subst (λ (q : Moment). Holds q (l .left)) (printed-lines p f ok .1) (c .told .holds),
+          subst (λ (q : Moment). AtMoment q (l .left)) (printed-lines p f ok .1) (c .told .holds),
         );
         refused = λ bad. (line-prints ∙ printed-refused p f (broken p f) refl bad .0, c .told .untouched bad);
       }
 
 -- ---- all lines
 
-whole-from : (p : Moment) (m : Memory) (ls : List Line) → Holds p m → LineByLine m ls → Whole p m ls
+whole-from : (p : Moment) (m : Memory) (ls : List Line) → AtMoment p m → LineByLine m ls → Whole p m ls
 unfolding output each
 whole-from p m [] h ended = record { prints = refl; taken = tt; demands = tt }
 whole-from p m (l ∷ ls) h (taken wide long s more) =
@@ -158,7 +158,7 @@ whole-from p m (l ∷ ls) h (taken wide long s more) =
       demands = (line-demand1 p m l c, c .demanded, rest .demands);
     }
 
-fresh-holds : (m : Memory) → Fresh m → Holds start m
+fresh-holds : (m : Memory) → Fresh m → AtMoment start m
 unfolding readSoFar
 fresh-holds m f = (
   record {

@@ -1,13 +1,13 @@
 -- Lines and answers, computed from the definitions.
 use mathlib.Core.Path.{_≡_, refl}
-use mathlib.Core.Bool.{true, false}
-use mathlib.Core.List.{List, [], _∷_, _++_, map}
+use mathlib.Core.Bool.{true}
+use mathlib.Core.List.{List, [], _∷_, map}
 use Prim.Native.Nat.{ℕ}
 use Rattle.promises.specs.Rules.{insertion, deletion}
 use Rattle.simulation.specs.Sets.{allBelow}
 use Rattle.bits.specs.Word.{word}
 use Rattle.frames.specs.Digits.{digit, hexadecimal, numberFrom, letter, place, digits}
-use Rattle.frames.specs.Frames.{Frame, state, node, run, edit, walk, nothing, spoken, frameOf}
+use Rattle.frames.specs.Frames.{state, node, run, edit, walk, nothing, spoken, frameOf}
 use Rattle.frames.specs.Lines.{lines}
 use Rattle.frames.specs.Outputs.{refusal, reportLine}
 

@@ -5,7 +5,7 @@ use native.Mathlib.Nat.{zero-add, sub-zero}
 use native.Mathlib.Omega.{arith}
 use mathlib.Core.Path.{_≡_, refl, sym, _∙_, ap, subst}
 use mathlib.Core.Logic.{_⊎_, ⊎-elim}
-use mathlib.Core.Bool.{Bool, true, false, _||_, cond}
+use mathlib.Core.Bool.{Bool, true, false, _||_}
 use mathlib.Core.List.{List, [], _∷_, _++_}
 use lib.Dec.{ltb, leb}
 use lib.IntN.{ℤ}
@@ -21,7 +21,6 @@ use Rattle.promises.specs.Rules.{rule, verdict, given}
 use Rattle.promises.proofs.Verdicts.{accepts-or, verdict-pass, row-passed, row-broken, rows-end}
 use Rattle.frames.specs.declared.Frame as declared
 use Rattle.frames.specs.declared.Frame.the-variants as F
-use Rattle.frames.specs.declared.Taken.{Taken}
 use Rattle.frames.specs.declared.Taken.the-variants as T
 use Rattle.frames.specs.Frames.{Frame, state, node, run, edit, walk, nothing, said, frameOf}
 use Rattle.frames.specs.Outputs.{refusal}
@@ -39,7 +38,6 @@ use Rattle.frames.specs.Machine.{
   tooSmall,
   miscounted,
   memoryRules,
-  toldTaken,
   Prints,
   Before,
   After,

@@ -10,7 +10,7 @@ use lib.ListN.{length, getD, take, drop, length-append, length-take, length-drop
 use lib.Seq.{take-all}
 use borrow.Author.Tests.{ltb-false, le-ltb}
 use Rattle.simulation.proofs.Sets.{clash, or-false-l, or-false-r}
-use Rattle.session.specs.Limits.{maxChanges, fixedSize}
+use Rattle.session.specs.Limits.{maxChanges}
 use Rattle.promises.specs.Answers.{accepted, refused}
 use Rattle.promises.specs.Rules.{rule, verdict}
 use Rattle.promises.proofs.Verdicts.{accepts-or, verdict-pass, verdict-skip, row-passed, row-broken, rows-end}
@@ -76,7 +76,7 @@ stepped-answers m line n left s =
     let same : n ≡ a .0 = cc (e) in
     rw same (a .2)
 
--- ---- an answer fits in the output that it was given
+-- ---- an answer fits in the output that it was written
 
 printed-fits : {bytes : List ℕ} {m m' : Memory} {n : ℕ} → Prints bytes m n m' → n ≤ length (m' .out)
 printed-fits {bytes} {m} p =
@@ -134,7 +134,7 @@ pub record Upto (block : List ℕ) (start p : Point) : Type 0 where
   pub goes : (q : Point) → Walks block p q → Walks block start q
   pub passed : Passed (p .memory)
   pub front : kept ≤ length (p .front)
-  pub inside : p .given ≤ length (p .memory .out)
+  pub inside : p .written ≤ length (p .memory .out)
 
 module _ (block : List ℕ) where
   pub walk-start : (front : List ℕ) (begun : ℕ) (m : Memory) → verdict (inputRules m front) ≡ 0
@@ -148,7 +148,7 @@ module _ (block : List ℕ) where
     front-stays e g = let k = keeps-long (p .front) (p .begun) _ front' begun' (g .front) in omega (arith, k, s .front)
 
     walk-begins : Gathers (p .front) (p .begun) block (p .at) front' begun' at' false
-        → Upto block start (point front' begun' at' (p .given) (p .memory))
+        → Upto block start (point front' begun' at' (p .written) (p .memory))
     walk-begins g = record {
       goes = λ q w. s .goes q (begins front' begun' at' on g w);
       passed = s .passed;
@@ -157,11 +157,11 @@ module _ (block : List ℕ) where
     }
 
     pub walk-open : (e : Bool) → e ≡ false → Gathers (p .front) (p .begun) block (p .at) front' begun' at' e
-        → Upto block start (point front' begun' at' (p .given) (p .memory))
+        → Upto block start (point front' begun' at' (p .written) (p .memory))
     walk-open e z g = walk-begins (subst (λ (b : Bool). Gathers (p .front) (p .begun) block (p .at) front' begun' at' b) z g)
 
     -- the memory that a line is answered in
-    lent-passed : Passed (outputAfter (p .given) (p .memory))
+    lent-passed : Passed (outputAfter (p .written) (p .memory))
     lent-passed =
         let h = s .passed in
         record {
@@ -174,91 +174,91 @@ module _ (block : List ℕ) where
           };
           counted = h .counted;
           room = h .room;
-          out = omega (arith, on .1, length-drop (p .given) (p .memory .out));
+          out = omega (arith, on .1, length-drop (p .written) (p .memory .out));
         }
 
-    module _ (n : ℕ) (left : Memory) (a : Answers (outputAfter (p .given) (p .memory)) (take begun' front') n left)
-        (same : SameLengths (outputAfter (p .given) (p .memory)) left) where
+    module _ (n : ℕ) (left : Memory) (a : Answers (outputAfter (p .written) (p .memory)) (take begun' front') n left)
+        (same : SameLengths (outputAfter (p .written) (p .memory)) left) where
       -- the whole output is as long as it was
-      out-long : length (take (p .given) (p .memory .out) ++ left .out) ≡ length (p .memory .out)
+      out-long : length (take (p .written) (p .memory .out) ++ left .out) ≡ length (p .memory .out)
       out-long =
-          length-append (take (p .given) (p .memory .out)) (left .out)
-          ∙ omega (arith, same .out, s .inside, length-take (p .given) (p .memory .out), length-drop (p .given) (p .memory .out))
+          length-append (take (p .written) (p .memory .out)) (left .out)
+          ∙ omega (arith, same .out, s .inside, length-take (p .written) (p .memory .out), length-drop (p .written) (p .memory .out))
 
-      given-fits : p .given + n ≤ length (p .memory .out)
-      given-fits =
-          let f = answers-fit (outputAfter (p .given) (p .memory)) (take begun' front') n left (lent-passed .counted) a in
-          omega (arith, f, same .out, s .inside, length-drop (p .given) (p .memory .out))
+      written-fits : p .written + n ≤ length (p .memory .out)
+      written-fits =
+          let f = answers-fit (outputAfter (p .written) (p .memory)) (take begun' front') n left (lent-passed .counted) a in
+          omega (arith, f, same .out, s .inside, length-drop (p .written) (p .memory .out))
 
       walk-answers : Gathers (p .front) (p .begun) block (p .at) front' begun' at' true
-          → Upto block start (point front' 0 at' (p .given + n) (withOutput (take (p .given) (p .memory .out)) left))
+          → Upto block start (point front' 0 at' (p .written + n) (withOutput (take (p .written) (p .memory .out)) left))
       walk-answers g =
-          let mine = outputAfter (p .given) (p .memory) in
+          let mine = outputAfter (p .written) (p .memory) in
           let c = answers-counted mine left n (lent-passed .ready) (lent-passed .counted) (take begun' front') a in
           record {
             goes = λ q w. s .goes q (answers front' begun' at' n left on g (taken-line mine (take begun' front') n left (passed-rules mine lent-passed) a) w);
-            passed = still-passed (p .memory) (withOutput (take (p .given) (p .memory .out)) left) (s .passed)
+            passed = still-passed (p .memory) (withOutput (take (p .written) (p .memory .out)) left) (s .passed)
                 record { counts = same .counts; words = same .words; session = same .session; room = same .room; out = out-long } c;
             front = front-stays true g;
-            inside = omega (arith, given-fits, out-long);
+            inside = omega (arith, written-fits, out-long);
           }
 
-    -- as the rest of the output is lent and given back
+    -- as the rest of the output is lent and written back
     abbrev pub part : Memory
     part =
         memory (p .memory .counts) (p .memory .words) (p .memory .session) (p .memory .room)
-        (take (length (p .memory .out) - p .given) (drop (p .given) (p .memory .out)))
+        (take (length (p .memory .out) - p .written) (drop (p .written) (p .memory .out)))
 
-    part-is : part ≡ outputAfter (p .given) (p .memory)
+    part-is : part ≡ outputAfter (p .written) (p .memory)
     part-is =
         ap (memory (p .memory .counts) (p .memory .words) (p .memory .session) (p .memory .room))
-        (take-all (length (p .memory .out) - p .given) (drop (p .given) (p .memory .out)) (omega (arith, length-drop (p .given) (p .memory .out))))
+        (take-all (length (p .memory .out) - p .written) (drop (p .written) (p .memory .out)) (omega (arith, length-drop (p .written) (p .memory .out))))
 
     pub part-passed : verdict (memoryRules part) ≡ 0
-    part-passed = subst (λ (m : Memory). verdict (memoryRules m) ≡ 0) (sym part-is) (passed-rules (outputAfter (p .given) (p .memory)) lent-passed)
+    part-passed = subst (λ (m : Memory). verdict (memoryRules m) ≡ 0) (sym part-is) (passed-rules (outputAfter (p .written) (p .memory)) lent-passed)
 
     module _ (n : ℕ) (left : Memory) (a : Answers part (take begun' front') n left) (same : SameLengths part left) where
-      a' : Answers (outputAfter (p .given) (p .memory)) (take begun' front') n left
+      a' : Answers (outputAfter (p .written) (p .memory)) (take begun' front') n left
       a' = subst (λ (m : Memory). Answers m (take begun' front') n left) part-is a
 
-      same' : SameLengths (outputAfter (p .given) (p .memory)) left
+      same' : SameLengths (outputAfter (p .written) (p .memory)) left
       same' = subst (λ (m : Memory). SameLengths m left) part-is same
 
-      pub part-fits : p .given + n ≤ length (p .memory .out)
-      part-fits = given-fits n left a' same'
+      pub part-fits : p .written + n ≤ length (p .memory .out)
+      part-fits = written-fits n left a' same'
 
-      pub part-long : length (take (p .given) (p .memory .out) ++ (left .out ++ drop (length (p .memory .out) - p .given) (drop (p .given) (p .memory .out))))
+      pub part-long : length (take (p .written) (p .memory .out) ++ (left .out ++ drop (length (p .memory .out) - p .written) (drop (p .written) (p .memory .out))))
           ≡ length (p .memory .out)
       part-long =
           let out = p .memory .out in
-          let rest = drop (p .given) out in
-          let k = length out - p .given in
-          length-append (take (p .given) out) (left .out ++ drop k rest)
+          let rest = drop (p .written) out in
+          let k = length out - p .written in
+          length-append (take (p .written) out) (left .out ++ drop k rest)
           ∙ omega (
             arith,
-            length-take (p .given) out,
+            length-take (p .written) out,
             length-append (left .out) (drop k rest),
             same .out,
             length-take k rest,
             length-drop k rest,
-            length-drop (p .given) out,
+            length-drop (p .written) out,
             s .inside,
           )
 
       pub walk-line : (e : Bool) → e ≡ true → Gathers (p .front) (p .begun) block (p .at) front' begun' at' e
-          → Upto block start (point front' 0 at' (p .given + n) (memory (left .counts) (left .words) (left .session) (left .room)
-          (take (p .given) (p .memory .out) ++ (left .out ++ drop (length (p .memory .out) - p .given) (drop (p .given) (p .memory .out))))))
+          → Upto block start (point front' 0 at' (p .written + n) (memory (left .counts) (left .words) (left .session) (left .room)
+          (take (p .written) (p .memory .out) ++ (left .out ++ drop (length (p .memory .out) - p .written) (drop (p .written) (p .memory .out))))))
       walk-line e z g =
-          let none : left .out ++ drop (length (p .memory .out) - p .given) (drop (p .given) (p .memory .out)) ≡ left .out =
+          let none : left .out ++ drop (length (p .memory .out) - p .written) (drop (p .written) (p .memory .out)) ≡ left .out =
           ap (λ (w : List ℕ). left .out ++ w)
-          (drop-of-length-le (drop (p .given) (p .memory .out)) {i = length (p .memory .out) - p .given} (omega (arith, length-drop (p .given) (p .memory .out))))
+          (drop-of-length-le (drop (p .written) (p .memory .out)) {i = length (p .memory .out) - p .written} (omega (arith, length-drop (p .written) (p .memory .out))))
           ∙ append-nil (left .out) in
           subst
-          (λ (w : List ℕ). Upto block start (point front' 0 at' (p .given + n) (memory (left .counts) (left .words) (left .session) (left .room) (take (p .given) (p .memory .out) ++ w))))
+          (λ (w : List ℕ). Upto block start (point front' 0 at' (p .written + n) (memory (left .counts) (left .words) (left .session) (left .room) (take (p .written) (p .memory .out) ++ w))))
           (sym none)
           (walk-answers n left a' same' (subst (λ (b : Bool). Gathers (p .front) (p .begun) block (p .at) front' begun' at' b) z g))
 
-  pub walk-stops : (start p : Point) → Upto block start p → (length block ≤ p .at) ⊎ (length (p .memory .out) < p .given + outputSize)
+  pub walk-stops : (start p : Point) → Upto block start p → (length block ≤ p .at) ⊎ (length (p .memory .out) < p .written + outputSize)
       → Walks block start p
   walk-stops start p s h = s .goes p (stops h)
 
@@ -304,20 +304,20 @@ module _ (block : List ℕ) where
       omega (arith, here .0, walk-at w (here .1) .0)
 
   -- the bytes given are in the output
-  walk-given : {p q : Point} → Walks block p q → p .given ≤ length (p .memory .out) → q .given ≤ length (q .memory .out)
-  walk-given (stops h) l = l
-  walk-given (begins front' begun' at' on g w) l = walk-given w l
-  walk-given {p} (answers front' begun' at' n left on g s w) l =
-      let mine = outputAfter (p .given) (p .memory) in
+  walk-written : {p q : Point} → Walks block p q → p .written ≤ length (p .memory .out) → q .written ≤ length (q .memory .out)
+  walk-written (stops h) l = l
+  walk-written (begins front' begun' at' on g w) l = walk-written w l
+  walk-written {p} (answers front' begun' at' n left on g s w) l =
+      let mine = outputAfter (p .written) (p .memory) in
       let fit = answers-fit mine (take begun' front') n left (rules-passed mine (unrefused mine (take begun' front') n left s) .counted)
       (stepped-answers mine (take begun' front') n left s) in
-      walk-given w (omega (arith, fit, l, length-append (take (p .given) (p .memory .out)) (left .out), length-take (p .given) (p .memory .out)))
+      walk-written w (omega (arith, fit, l, length-append (take (p .written) (p .memory .out)) (left .out), length-take (p .written) (p .memory .out)))
 
   walk-counted : {p q : Point} → Walks block p q → Counted (p .memory .counts) → Counted (q .memory .counts)
   walk-counted (stops h) c = c
   walk-counted (begins front' begun' at' on g w) c = walk-counted w c
   walk-counted {p} (answers front' begun' at' n left on g s w) c =
-      let mine = outputAfter (p .given) (p .memory) in
+      let mine = outputAfter (p .written) (p .memory) in
       let h = rules-passed mine (unrefused mine (take begun' front') n left s) in
       walk-counted w (answers-counted mine left n (h .ready) (h .counted) (take begun' front') (stepped-answers mine (take begun' front') n left s))
 
@@ -331,7 +331,7 @@ module _ (m : Memory) (front : List ℕ) (begun : ℕ) (block : List ℕ) (r : P
   block-goes l = walk-goes block (t .walks ok .1) (l, input-passed m front ok .0 .out)
 
   pub block-written : r .written ≤ length (m' .out)
-  block-written = walk-given block (t .walks ok .1) (omega arith)
+  block-written = walk-written block (t .walks ok .1) (omega arith)
 
   -- and it breaks none after the call
   pub block-passed : SameLengths m m' → length front' ≡ length front → verdict (inputRules m' front') ≡ 0

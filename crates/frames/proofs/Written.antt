@@ -1,7 +1,6 @@
 -- A number written digit by digit.
 use Prim.Native.Nat.{ℕ, zero, suc, _+_, _-_, _*_, _/_, _%_, _^_, _<_, _≤_}
 use native.Mathlib.Omega.{arith}
-use native.Mathlib.Numerals.{add-one}
 use mathlib.Core.Path.{_≡_, refl, sym, _∙_, ap, ap₂, fun-ext}
 use mathlib.Core.Logic.{⊎-elim}
 use mathlib.Core.Bool.{Bool, true, false, _&&_, cond}
@@ -13,10 +12,9 @@ use lib.Signed.{nonNeg}
 use lib.Pow.{shr-shr}
 use mir.Val.{boolByte}
 use borrow.Author.Tests.{lt-ltb, le-ltb}
-use Rattle.simulation.specs.Sets.{Set}
 use Rattle.simulation.proofs.Sets.{clash}
 use Rattle.simulation.proofs.Search.{lt-or-le}
-use Rattle.bits.specs.Word.{bit, members, word}
+use Rattle.bits.specs.Word.{members, word}
 use Rattle.bits.proofs.Bits.{bit-above}
 use Rattle.bits.proofs.Words.{same-members, word-members}
 use Rattle.listing.specs.Placed.{Placed}
@@ -126,10 +124,10 @@ bool-number false = refl
 
 -- ---- two's complement
 
-pub complement-begins : (z : ℤ) (n : ℕ) (b : Bool) → n ≡ natAbs z → b ≡ nonNeg z → b ≡ true → n ≡ complement z
+pub complement-nonneg : (z : ℤ) (n : ℕ) (b : Bool) → n ≡ natAbs z → b ≡ nonNeg z → b ≡ true → n ≡ complement z
 unfolding complement
-complement-begins (pos k) n b e h t = e
-complement-begins (negsuc k) n b e h t = clash t h
+complement-nonneg (pos k) n b e h t = e
+complement-nonneg (negsuc k) n b e h t = clash t h
 
 pub complement-ceases : (z : ℤ) (n : ℕ) (b : Bool) → n ≡ natAbs z → b ≡ nonNeg z → b ≡ false → (1 ≤ n) × (4294967295 - (n - 1) ≡ complement z)
 unfolding complement

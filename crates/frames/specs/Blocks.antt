@@ -20,39 +20,39 @@ abbrev pub inputRules : Memory → List ℕ → List Rule
 inputRules m front = rule 3 (tooSmall m || ltb (length front) kept) ∷ rule 10 (miscounted m) ∷ []
 
 -- Where the walk over a block stands: the memory of the front and how much of it the line begun has, the place in the block, how many bytes of
--- output are given, and the machine's memory.
+-- output are written, and the machine's memory.
 pub record Point : Type 0 where
   pub front : List ℕ
   pub begun : ℕ
   pub at : ℕ
-  pub given : ℕ
+  pub written : ℕ
   pub memory : Memory
 
 abbrev pub point : List ℕ → ℕ → ℕ → ℕ → Memory → Point
-point front begun at given m = record { front = front; begun = begun; at = at; given = given; memory = m }
+point front begun at written m = record { front = front; begun = begun; at = at; written = written; memory = m }
 
 -- a line is answered in the output after the answers before it
 abbrev pub outputAfter : ℕ → Memory → Memory
-outputAfter given m = memory (m .counts) (m .words) (m .session) (m .room) (drop given (m .out))
+outputAfter written m = memory (m .counts) (m .words) (m .session) (m .room) (drop written (m .out))
 
 abbrev pub withOutput : List ℕ → Memory → Memory
 withOutput before m = memory (m .counts) (m .words) (m .session) (m .room) (before ++ m .out)
 
 -- there are bytes to come in the block, and room for one answer more
 abbrev pub GoesOn : List ℕ → Point → Type 0
-GoesOn block p = (p .at < length block) × (p .given + outputSize ≤ length (p .memory .out))
+GoesOn block p = (p .at < length block) × (p .written + outputSize ≤ length (p .memory .out))
 
 -- The walk, from one point to where it stops.
 pub data Walks (block : List ℕ) : Point → Point → Type 0 where
-  stops : {p : Point} → (length block ≤ p .at) ⊎ (length (p .memory .out) < p .given + outputSize) → Walks block p p
+  stops : {p : Point} → (length block ≤ p .at) ⊎ (length (p .memory .out) < p .written + outputSize) → Walks block p p
   -- no line ends in the rest of the block
   begins : {p q : Point} (front' : List ℕ) (begun' at' : ℕ) → GoesOn block p → Gathers (p .front) (p .begun) block (p .at) front' begun' at' false
-      → Walks block (point front' begun' at' (p .given) (p .memory)) q → Walks block p q
+      → Walks block (point front' begun' at' (p .written) (p .memory)) q → Walks block p q
   -- a line ends, and the machine takes it
   answers : {p q : Point} (front' : List ℕ) (begun' at' n : ℕ) (left : Memory) → GoesOn block p
       → Gathers (p .front) (p .begun) block (p .at) front' begun' at' true
-      → Stepped (outputAfter (p .given) (p .memory)) (take begun' front') (T.Written n) left
-      → Walks block (point front' 0 at' (p .given + n) (withOutput (take (p .given) (p .memory .out)) left)) q → Walks block p q
+      → Stepped (outputAfter (p .written) (p .memory)) (take begun' front') (T.Written n) left
+      → Walks block (point front' 0 at' (p .written + n) (withOutput (take (p .written) (p .memory .out)) left)) q → Walks block p q
 
 -- a call that the lent memory refuses: nothing is taken and nothing is written
 abbrev pub Refuses : ℕ → ℕ → Progress → Type 0

@@ -1,9 +1,9 @@
 -- What the program's machine promises when it takes one line, whatever the line and the lent memory are.
 use Prim.Native.Nat.{ℕ, _+_, _*_, _≤_}
 use mathlib.Core.Path.{_≡_}
-use mathlib.Core.Bool.{Bool, true, false, not, _||_, cond}
+use mathlib.Core.Bool.{Bool, _||_, cond}
 use mathlib.Core.List.{List, [], _∷_, _++_}
-use lib.Dec.{ltb, leb, eqb}
+use lib.Dec.{ltb, leb}
 use lib.IntN.{ℤ}
 use lib.ListN.{length, getD, set, drop}
 use Rattle.session.specs.Limits.{maxStates, maxNodes, maxChanges, fixedSize}

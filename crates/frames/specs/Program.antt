@@ -4,7 +4,7 @@ use mathlib.Core.Path.{_≡_}
 use mathlib.Core.List.{List, [], _∷_, map}
 use lib.IntN.{ℤ}
 use lib.ListN.{length, getD, take}
-use Rattle.session.specs.Limits.{maxStates, maxNodes, maxChanges, fixedSize}
+use Rattle.session.specs.Limits.{maxChanges, fixedSize}
 use Rattle.promises.specs.declared.Answer.{Answer}
 use Rattle.promises.specs.Answers.{Outcome, accepted, refused, told, handedBack}
 use Rattle.promises.specs.Rules.{Given, Kind}
@@ -73,15 +73,15 @@ pub record Fresh (m : Memory) : Type 0 where
   pub nodes : nodesRead m ≡ 0
 
 -- the memory holds a moment: it is long enough, and has what was read so far, or the session of the model
-abbrev pub Holds : Moment → Memory → Type 0
-Holds (reading x) m = Ready m × (getD (m .counts) 0 0 ≡ 0) × (readSoFar m ≡ x)
-Holds (running b) m = Ready m × (getD (m .counts) 0 0 ≡ 1) × Faithful b (m .session)
+abbrev pub AtMoment : Moment → Memory → Type 0
+AtMoment (reading x) m = Ready m × (getD (m .counts) 0 0 ≡ 0) × (readSoFar m ≡ x)
+AtMoment (running b) m = Ready m × (getD (m .counts) 0 0 ≡ 1) × Faithful b (m .session)
 
 -- Demand 1 of an input line, taken in the memory m at a moment that m holds.
-pub record Demand1 (p : Moment) (m : Memory) (l : Line) : Type 0 where
+pub record LineDemand1 (p : Moment) (m : Memory) (l : Line) : Type 0 where
   -- "is carried out": its lines are printed, and the memory holds the moment after it
   pub carried : broken p (frameOf (l .bytes)) ≡ 0
-      → (printedBy l ≡ reply p (frameOf (l .bytes)) .lines) × Holds (reply p (frameOf (l .bytes)) .moment) (l .left)
+      → (printedBy l ≡ reply p (frameOf (l .bytes)) .lines) × AtMoment (reply p (frameOf (l .bytes)) .moment) (l .left)
   -- "refused with the number of the first rule broken, session and change room untouched": nothing is written but the refusal
   pub refused : (broken p (frameOf (l .bytes)) ≡ 0 → ⊥)
       → (printedBy l ≡ refusal (broken p (frameOf (l .bytes))))
@@ -119,7 +119,7 @@ Demanded (running b) nothing l = Unit {1}
 abbrev pub Throughout : Moment → Memory → List Line → Type 1
 Throughout p m [] = Unit {1}
 Throughout p m (l ∷ ls) =
-    Demand1 p m l × Demanded p (frameOf (l .bytes)) l × Throughout (next p (frameOf (l .bytes))) (l .left) ls
+    LineDemand1 p m l × Demanded p (frameOf (l .bytes)) l × Throughout (next p (frameOf (l .bytes))) (l .left) ls
 
 -- The claim from a moment on: every output byte; no line is met by a rule of the memory; and the demands.
 pub record Whole (p : Moment) (m : Memory) (ls : List Line) : Type 1 where

@@ -4,27 +4,33 @@ use native.Mathlib.Omega.{arith}
 use mathlib.Core.Path.{_≡_, refl, sym, _∙_, ap, subst}
 use mathlib.Core.Logic.{⊎-elim}
 use mathlib.Core.Bool.{false}
-use mathlib.Core.List.{List, _++_}
+use mathlib.Core.List.{List, [], _++_}
 use lib.IntN.{ℤ}
-use lib.ListN.{length, drop}
-use Rattle.session.specs.Limits.{fixedSize}
-use Rattle.session.specs.Trigger.{Trigger, Graph, Marks}
-use Rattle.session.specs.Layout.{image, marksOf}
-use Rattle.session.proofs.Decoded.{marks-image}
+use lib.ListN.{length, take, drop}
+use Rattle.session.specs.Limits.{maxStates, fixedSize}
+use Rattle.session.specs.Trigger.{Trigger, Graph, Marks, states}
+use Rattle.session.specs.Layout.{section, image, triggerOf, graphOf, marksOf}
+use Rattle.session.proofs.Tables.{take-section}
+use Rattle.session.proofs.Image.{drop-image}
+use Rattle.session.proofs.Decoded.{trigger-image, graph-image, marks-image, layout-facts}
 use Rattle.listing.specs.Changes.{changes}
+use Rattle.listing.specs.Order.{order}
+use Rattle.listing.proofs.Orders.{order-length}
 use Rattle.listing.proofs.Lists.{changes-none}
 use Rattle.promises.specs.declared.Answer.{Answer}
+use Rattle.promises.specs.declared.StateOrder.{StateOrder}
 use Rattle.promises.specs.Standing.{stands, fires}
 use Rattle.promises.specs.Answers.{Outcome, Summary, accepted, refused, outcome, told, changesTold, firesTold, handedBack}
-use Rattle.promises.specs.Rules.{Kind, insertion, deletion, Given, givenTrigger, givenGraph, edited, verdict, loadRules, editRules}
-use Rattle.promises.specs.Promises.{Untouched, Loaded, Edited}
+use Rattle.promises.specs.Rules.{Kind, insertion, deletion, Given, givenTrigger, givenGraph, edited, verdict, loadRules, editRules, questionRules}
+use Rattle.promises.specs.Promises.{Untouched, Reported, loadList, loadTrials, Loaded, Edited, Ordered}
 use Rattle.promises.specs.Model.{Model, begun, Edit, modelRules, step}
-use Rattle.promises.specs.Demands.{Judged, Answered, Demand1, Demand2, Call, Run, ended, called, editOf, Faithful, Held, Kept, Follows, Demand3}
+use Rattle.promises.specs.Demands.{Judged, Answered, LoadCarried, EditCarried, Demand1, Demand2, Call, Run, ended, called, editOf, Faithful, Held, Kept, Follows, Demand3}
 use Rattle.promises.proofs.Stands.{stands-simulates, stands-greatest, stands-inside, fires-iff}
 use Rattle.promises.proofs.Handed.{handed-back, handed-none}
 use Rattle.promises.proofs.Verdicts.{accepts-or, verdict-lacks}
 use Rattle.promises.proofs.Loads.{fresh-graph, fresh-accepted}
-use Rattle.promises.proofs.Edits.{edited-changes, edited-chain}
+use Rattle.promises.proofs.Passed.{edit-passed, question-passed}
+use Rattle.promises.proofs.Edits.{edited-facts, edited-changes, edited-chain}
 use Rattle.promises.proofs.Steps.{
   step-accepted,
   step-refused,
@@ -56,32 +62,87 @@ judged-accepted n o a z e = (a, e ∙ ap (λ (k : ℕ). outcome k a) (sym z))
 judged-refused : (n : ℕ) (o : Outcome Summary) → (n ≡ 0 → ⊥) → o ≡ refused n → Judged n o
 judged-refused n o bad e = (nothing, e ∙ sym (outcome-refused n nothing bad))
 
-answered-refused : (n : ℕ) (s : List ℕ) (c : List ℤ) (r : Answer) (s' : List ℕ) (c' : List ℤ) → (n ≡ 0 → ⊥) → Untouched n s c r s' c' → Answered n s c r s' c'
-answered-refused n s c r s' c' bad u = record {
+answered-refused : (n : ℕ) (s : List ℕ) (c : List ℤ) (r : Answer) (s' : List ℕ) (c' : List ℤ) (E : Type 0) → (n ≡ 0 → ⊥) → Untouched n s c r s' c'
+    → Answered n s c r s' c' E
+answered-refused n s c r s' c' E bad u = record {
   judged = judged-refused n (told r) bad (u .answer);
   untouched = λ h. (u .session, u .room, handed-none c' r (ap changesTold (u .answer)));
+  carried = λ z. absurd (bad z);
 }
 
-answered-accepted : (n : ℕ) (s : List ℕ) (c : List ℤ) (r : Answer) (s' : List ℕ) (c' : List ℤ) (a : Summary) → n ≡ 0 → told r ≡ accepted a → Answered n s c r s' c'
-answered-accepted n s c r s' c' a z e = record { judged = judged-accepted n (told r) a z e; untouched = λ bad. absurd (bad z) }
+answered-accepted : (n : ℕ) (s : List ℕ) (c : List ℤ) (r : Answer) (s' : List ℕ) (c' : List ℤ) (E : Type 0) (a : Summary) → n ≡ 0
+    → told r ≡ accepted a → E → Answered n s c r s' c' E
+answered-accepted n s c r s' c' E a z e effect =
+    record { judged = judged-accepted n (told r) a z e; untouched = λ bad. absurd (bad z); carried = λ ok. effect }
+
+-- a list that was reported is handed back
+reported-list : (t : Trigger) (g : Graph) (m : Marks) (trials : ℕ) (list c : List ℤ) (r : Answer) (c' : List ℤ) → Reported t g m trials list c r c'
+    → handedBack c' r ≡ list
+reported-list t g m trials list c r c' w =
+    ap (λ (room : List ℤ). handedBack room r) (w .room) ∙ handed-back list (drop (length list) c) r (ap changesTold (w .answer))
+
+load-carried : (x : Given) (s : List ℕ) (c : List ℤ) (r : Answer) (s' : List ℕ) (c' : List ℤ) → Loaded x s c r s' c'
+    → verdict (loadRules (length s) (length c) x) ≡ 0 → LoadCarried x s r s' c'
+load-carried x s c r s' c' p ok =
+    let w = p .accepts ok in
+    let f = faithful-load x s c r s' c' p ok in
+    let t = givenTrigger x in
+    let g = givenGraph x in
+    record {
+      trigger = holds-trigger (begun x) s' f;
+      graph = holds-graph (begun x) s' f;
+      marks = holds-marks (begun x) s' f;
+      beyond = ap (drop fixedSize) (w .0) ∙ drop-image t g (stands t g) (drop fixedSize s);
+      tells = w .1 .answer;
+      list = reported-list t g (stands t g) (loadTrials t g) (loadList t g) c r c' (w .1);
+    }
+
+edit-carried : (k : Kind) (s : List ℕ) (a b : ℕ) (c : List ℤ) (r : Answer) (s' : List ℕ) (c' : List ℤ) → Edited k s a b c r s' c'
+    → verdict (editRules k s (length c) a b) ≡ 0 → EditCarried k a b s c r s' c'
+edit-carried k s a b c r s' c' p ok =
+    let w = p .accepts ok in
+    let passed = edit-passed k s (length c) a b ok in
+    let f = layout-facts s (passed .0) in
+    let t = triggerOf s in
+    let g' = edited k (graphOf s) a b in
+    let graph : graphOf s' ≡ g' =
+    ap graphOf (w .edit .session) ∙ graph-image t g' (marksOf s') (drop fixedSize s) (edited-facts k (graphOf s) a b (f .graph) (passed .2)) in
+    record {
+      edit = w;
+      trigger = ap triggerOf (w .edit .session) ∙ trigger-image t g' (marksOf s') (drop fixedSize s) (f .trigger);
+      graph = graph;
+      list =
+          reported-list t g' (marksOf s') (w .trials) (changes t g' (marksOf s) (marksOf s')) c r c' (w .report)
+          ∙ ap (λ (h : Graph). changes t h (marksOf s) (marksOf s')) (sym graph);
+    }
+
+-- the order told, where no rule is broken
+order-carried : (s : List ℕ) (r : StateOrder) → Ordered s r → verdict (questionRules s []) ≡ 0
+    → take (states (triggerOf s)) (r .states) ≡ order (triggerOf s)
+order-carried s r p ok =
+    let t = triggerOf s in
+    let f = layout-facts s (question-passed s [] ok .0) in
+    rw (p .states, ok)
+    (ap (λ (n : ℕ). take n (section maxStates (order t))) (sym (order-length t))
+    ∙ take-section maxStates (order t) (rw (order-length t) (f .trigger .few)))
 
 pub demand1 : Demand1
 demand1 = record {
   load = λ x s c r s' c' p.
       let n = verdict (loadRules (length s) (length c) x) in
       ⊎-elim
-      (λ ok. answered-accepted n s c r s' c' _ ok (p .accepts ok .1 .answer))
-      (λ bad. answered-refused n s c r s' c' bad (p .refuses bad))
+      (λ ok. answered-accepted n s c r s' c' (LoadCarried x s r s' c') _ ok (p .accepts ok .1 .answer) (load-carried x s c r s' c' p ok))
+      (λ bad. answered-refused n s c r s' c' (LoadCarried x s r s' c') bad (p .refuses bad))
       (accepts-or n);
   edit = λ k s a b c r s' c' p.
       let n = verdict (editRules k s (length c) a b) in
       ⊎-elim
-      (λ ok. answered-accepted n s c r s' c' _ ok (p .accepts ok .report .answer))
-      (λ bad. answered-refused n s c r s' c' bad (p .refuses bad))
+      (λ ok. answered-accepted n s c r s' c' (EditCarried k a b s c r s' c') _ ok (p .accepts ok .report .answer) (edit-carried k s a b c r s' c' p ok))
+      (λ bad. answered-refused n s c r s' c' (EditCarried k a b s c r s' c') bad (p .refuses bad))
       (accepts-or n);
-  standing = λ s state v r p. (_, p);
-  firing = λ s r p. (_, p);
-  order = λ s r p. (_, p .answer);
+  standing = λ s state v r p. p;
+  firing = λ s r p. p;
+  order = λ s r p. (p .answer, order-carried s r p);
 }
 
 -- ---- Demand 2

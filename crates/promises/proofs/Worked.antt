@@ -2,7 +2,7 @@
 -- rules that are broken together.
 use Prim.Native.Nat.{ℕ, zero, suc}
 use mathlib.Core.Path.{_≡_, refl}
-use mathlib.Core.Bool.{Bool, true, false}
+use mathlib.Core.Bool.{Bool, true, false, _&&_, _||_}
 use mathlib.Core.List.{List, [], _∷_, map}
 use lib.Dec.{ltb, leb}
 use lib.IntN.{ℤ, pos}
@@ -12,13 +12,13 @@ use Rattle.simulation.specs.System.{greatest, supported, closure, reaches}
 use Rattle.simulation.specs.Pattern.{best}
 use Rattle.simulation.specs.Ordered.{elem, insert, remove, joins}
 use Rattle.bits.specs.Word.{word}
-use Rattle.session.specs.Limits.{maxEdges}
+use Rattle.session.specs.Limits.{maxEdges, maxChanges, fixedSize}
 use Rattle.session.specs.Trigger.{Trigger, Graph, nodes, linked, edge, edgeNumber, admits, agrees}
-use Rattle.session.specs.Layout.{table, markWord, below}
+use Rattle.session.specs.Layout.{table, markWord, below, inLayout}
 use Rattle.listing.specs.Changes.{joinTo, changes}
 use Rattle.listing.specs.Order.{fold, visit, order}
 use Rattle.promises.specs.Standing.{stands, fires, trialSet}
-use Rattle.promises.specs.Rules.{Kind, insertion, deletion, edited, graphRules, verdict, Given, loadRules}
+use Rattle.promises.specs.Rules.{Rule, Kind, insertion, deletion, edited, graphRules, verdict, Given, loadRules, editRules, questionRules}
 use Rattle.promises.specs.Promises.{loadList, loadTrials, trialCount}
 
 -- a load, or an edit of (start, end), of this trigger and this graph
@@ -105,7 +105,7 @@ load-verdicts =
     ∷ verdict (loadRules 3123 8192 (given (0 ∷ []) (2 ∷ []) (many 513) [] []))
     ∷ verdict (loadRules 3123 8192 (given (0 ∷ []) (1 ∷ []) (many 513) (0 ∷ []) []))
     ∷ verdict (loadRules 3123 8192 (given (0 ∷ []) (1 ∷ []) (0 ∷ []) (1 ∷ 0 ∷ []) (0 ∷ [])))
-    ∷ verdict (loadRules 3123 8192 (given (0 ∷ []) (1 ∷ []) (0 ∷ []) (0 ∷ 0 ∷ []) (0 ∷ 1 ∷ [])))
+    ∷ verdict (loadRules 3123 8192 (given (0 ∷ []) (1 ∷ []) (0 ∷ []) (0 ∷ 0 ∷ []) (1 ∷ 0 ∷ [])))
     ∷ verdict (loadRules 3123 8192 (given (0 ∷ []) (1 ∷ []) (0 ∷ 0 ∷ []) (0 ∷ 0 ∷ []) (1 ∷ 0 ∷ [])))
     ∷ verdict (loadRules 3123 8192 (given (0 ∷ []) (1 ∷ []) (0 ∷ 0 ∷ []) (0 ∷ 0 ∷ []) (0 ∷ 1 ∷ [])))
     ∷ []
@@ -123,6 +123,30 @@ pub edge-absent : (g : Graph) (a b : ℕ) → ltb a (nodes g) ≡ true → ltb b
     → verdict (graphRules insertion g a b) ≡ 13
 unfolding verdict
 edge-absent g a b ha hb h full = rw (ha, hb, h, full)
+
+-- an end that is no node comes before all else that an edge may break
+pub edge-outside : (k : Kind) (g : Graph) (a b : ℕ) → (ltb a (nodes g) && ltb b (nodes g)) ≡ false → verdict (graphRules k g a b) ≡ 11
+unfolding verdict
+edge-outside insertion g a b h = rw h
+edge-outside deletion g a b h = rw h
+
+-- memory or room too short comes before the layout, and the layout before the edge; of a question likewise
+pub edit-short : (k : Kind) (s : List ℕ) (room a b : ℕ) → (ltb (length s) fixedSize || ltb room maxChanges) ≡ true → verdict (editRules k s room a b) ≡ 3
+unfolding verdict
+edit-short k s room a b h = rw h
+
+pub edit-unlaid : (k : Kind) (s : List ℕ) (room a b : ℕ) → (ltb (length s) fixedSize || ltb room maxChanges) ≡ false → inLayout s ≡ false
+    → verdict (editRules k s room a b) ≡ 10
+unfolding verdict
+edit-unlaid k s room a b h l = rw (h, l)
+
+pub question-short : (s : List ℕ) (more : List Rule) → ltb (length s) fixedSize ≡ true → verdict (questionRules s more) ≡ 3
+unfolding verdict
+question-short s more h = rw h
+
+pub question-unlaid : (s : List ℕ) (more : List Rule) → ltb (length s) fixedSize ≡ false → inLayout s ≡ false → verdict (questionRules s more) ≡ 10
+unfolding verdict
+question-unlaid s more h l = rw (h, l)
 
 -- ---- the memory of docs/LAYOUT.md: the edges and the mark words of 01's session once both edges are in
 

@@ -1,24 +1,25 @@
 -- The three demands, over the promises of the calls. They are proved in proofs/Demands.
-use Prim.Native.Nat.{ℕ, _<_, _≤_}
+use Prim.Native.Nat.{ℕ, _-_, _<_, _≤_}
 use mathlib.Core.Path.{_≡_}
 use mathlib.Core.Logic.{_↔_}
 use mathlib.Core.Bool.{true}
 use mathlib.Core.List.{List, [], _∷_, _++_}
 use lib.IntN.{ℤ}
-use lib.ListN.{length, drop}
+use lib.ListN.{length, take, drop}
 use Rattle.session.specs.Limits.{maxChanges, fixedSize}
 use Rattle.session.specs.Trigger.{Trigger, Graph, Marks, states, linked, edge}
 use Rattle.session.specs.Layout.{image, validTrigger, validGraph, triggerOf, graphOf, marksOf}
 use Rattle.listing.specs.Changes.{changes}
+use Rattle.listing.specs.Order as listing
 use Rattle.promises.specs.declared.Answer.{Answer}
 use Rattle.promises.specs.declared.Standing.{Standing}
 use Rattle.promises.specs.declared.FiringAnswer.{FiringAnswer}
 use Rattle.promises.specs.declared.StateOrder.{StateOrder}
 use Rattle.promises.specs.Standing.{Simulation, stands, fires}
-use Rattle.promises.specs.Answers.{Outcome, outcome, refused, firesTold, told, toldStanding, toldFiring, toldOrder, handedBack}
-use Rattle.promises.specs.Rules.{Kind, insertion, deletion, Given, givenTrigger, givenGraph, verdict, loadRules, editRules, questionRules, pairRules}
-use Rattle.promises.specs.Promises.{Loaded, Edited, Matches, Fires, Ordered}
-use Rattle.promises.specs.Model.{Model, begun, Edit, modelRules, step, freshly}
+use Rattle.promises.specs.Answers.{Outcome, accepted, refused, outcome, firesTold, told, toldStanding, toldFiring, toldOrder, handedBack}
+use Rattle.promises.specs.Rules.{Kind, insertion, deletion, Given, givenTrigger, givenGraph, edited, verdict, loadRules, editRules, questionRules, pairRules}
+use Rattle.promises.specs.Promises.{loadList, Loaded, Carried, Edited, Matches, Fires, Ordered}
+use Rattle.promises.specs.Model.{Model, begun, Edit, modelRules, step, freshly, loadSummary}
 
 -- ---- Demand 1
 
@@ -26,19 +27,42 @@ use Rattle.promises.specs.Model.{Model, begun, Edit, modelRules, step, f
 abbrev pub Judged : {A : Type 0} → ℕ → Outcome A → Type 0
 Judged {A} n o = (a : A) × (o ≡ outcome n a)
 
--- "session and change room untouched"
-pub record Answered (n : ℕ) (s : List ℕ) (c : List ℤ) (r : Answer) (s' : List ℕ) (c' : List ℤ) : Type 0 where
+-- "refused with the number of the first rule broken, session and change room untouched", where that number is n; and where no rule is broken,
+-- "is carried out"
+pub record Answered (n : ℕ) (s : List ℕ) (c : List ℤ) (r : Answer) (s' : List ℕ) (c' : List ℤ) (Effect : Type 0) : Type 0 where
   pub judged : Judged n (told r)
   pub untouched : (n ≡ 0 → ⊥) → (s' ≡ s) × (c' ≡ c) × (handedBack c' r ≡ [])
+  pub carried : n ≡ 0 → Effect
 
+-- what a load that is carried out leaves and tells: the trigger and graph given, with their greatest simulation, and the list of what stands
+pub record LoadCarried (x : Given) (s : List ℕ) (r : Answer) (s' : List ℕ) (c' : List ℤ) : Type 0 where
+  pub trigger : triggerOf s' ≡ givenTrigger x
+  pub graph : graphOf s' ≡ givenGraph x
+  pub marks : marksOf s' ≡ stands (givenTrigger x) (givenGraph x)
+  pub beyond : drop fixedSize s' ≡ drop fixedSize s
+  pub tells : told r ≡ accepted (loadSummary x)
+  pub list : handedBack c' r ≡ loadList (givenTrigger x) (givenGraph x)
+
+-- what an edit that is carried out leaves and tells: the edge in or out, and the list of the marks that changed; of the marks, see `Done`
+pub record EditCarried (k : Kind) (a b : ℕ) (s : List ℕ) (c : List ℤ) (r : Answer) (s' : List ℕ) (c' : List ℤ) : Type 0 where
+  pub edit : Carried k (triggerOf s) (graphOf s) (marksOf s) (marksOf s') a b s c r s' c'
+  pub trigger : triggerOf s' ≡ triggerOf s
+  pub graph : graphOf s' ≡ edited k (graphOf s) a b
+  pub list : handedBack c' r ≡ changes (triggerOf s) (graphOf s') (marksOf s) (marksOf s')
+
+-- The questions tell what they are asked of the marks held. The lines of the frame program have a demand 1 of their own.
 pub record Demand1 : Type 0 where
   pub load : (x : Given) (s : List ℕ) (c : List ℤ) (r : Answer) (s' : List ℕ) (c' : List ℤ)
-      → Loaded x s c r s' c' → Answered (verdict (loadRules (length s) (length c) x)) s c r s' c'
+      → Loaded x s c r s' c' → Answered (verdict (loadRules (length s) (length c) x)) s c r s' c' (LoadCarried x s r s' c')
   pub edit : (k : Kind) (s : List ℕ) (a b : ℕ) (c : List ℤ) (r : Answer) (s' : List ℕ) (c' : List ℤ)
-      → Edited k s a b c r s' c' → Answered (verdict (editRules k s (length c) a b)) s c r s' c'
-  pub standing : (s : List ℕ) (state v : ℕ) (r : Standing) → Matches s state v r → Judged (verdict (pairRules s state v)) (toldStanding r)
-  pub firing : (s : List ℕ) (r : FiringAnswer) → Fires s r → Judged (verdict (questionRules s [])) (toldFiring r)
-  pub order : (s : List ℕ) (r : StateOrder) → Ordered s r → Judged (verdict (questionRules s [])) (toldOrder (r .answer))
+      → Edited k s a b c r s' c' → Answered (verdict (editRules k s (length c) a b)) s c r s' c' (EditCarried k a b s c r s' c')
+  pub standing : (s : List ℕ) (state v : ℕ) (r : Standing) → Matches s state v r
+      → toldStanding r ≡ outcome (verdict (pairRules s state v)) (marksOf s (state - 1) v)
+  pub firing : (s : List ℕ) (r : FiringAnswer) → Fires s r
+      → toldFiring r ≡ outcome (verdict (questionRules s [])) (fires (triggerOf s) (graphOf s) (marksOf s))
+  pub order : (s : List ℕ) (r : StateOrder) → Ordered s r
+      → (toldOrder (r .answer) ≡ outcome (verdict (questionRules s [])) (states (triggerOf s)))
+      × (verdict (questionRules s []) ≡ 0 → take (states (triggerOf s)) (r .states) ≡ listing.order (triggerOf s))
 
 -- ---- Demand 2
 

@@ -1,6 +1,5 @@
 // The types in which the engine's calls answer. What each call promises is defined in specs/.
 
-// The types in which the engine's calls answer. What each call promises is defined in specs/.
 // Whether every state stands at some node.
 pub enum Firing {
     Fires,

@@ -11,7 +11,7 @@ use mir.ValLaws.{toZ-ofZ}
 use Rattle.change_lists.proofs.Signs.{below-sign}
 use Rattle.change_lists.proofs.size_of.Reads as size-of-reads
 use Rattle.frames.specs.Outputs.{complement}
-use Rattle.frames.proofs.Written.{complement-begins, complement-ceases}
+use Rattle.frames.proofs.Written.{complement-nonneg, complement-ceases}
 use Rattle.answer_lines.proofs.complement.Reads as reads
 use Rattle.answer_lines.proofs.complement.Lts as lts
 use Rattle.answer_lines.proofs.complement.Statement.{statement}
@@ -42,7 +42,7 @@ returns-2 : tie.Need-returns-2
 returns-2 c =
     let z = c .before .before .args .change in
     let r = toZ-ofZ w32 z (c .before .before .fits .change) in
-    complement-begins z (c .before .size-of .result) (nonNeg z) (c .before .size-of .ensures ∙ ap natAbs r) refl
+    complement-nonneg z (c .before .size-of .result) (nonNeg z) (c .before .size-of .ensures ∙ ap natAbs r) refl
     (not-false (nonNeg z) (sym (below-sign z) ∙ ap (λ (y : ℤ). ltZ y (pos 0)) (sym r) ∙ c .if1 .left))
 
 pub complement-spec : {M : Type 1} → statement M

@@ -1,6 +1,6 @@
 -- The memory breaks no rule after each block; the count of turns falls.
 use borrow.Author.Needs.{needs}
-use mathlib.Core.Path.{_≡_, refl, _∙_}
+use mathlib.Core.Path.{_≡_, refl}
 use lib.ListN.{length}
 use Rattle.promises.specs.Rules.{verdict}
 use Rattle.frames.specs.Machine.{memory}
