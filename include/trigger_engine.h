@@ -36,10 +36,12 @@ enum {
     TRIGGER_ORDER_PLACES = 16
 };
 
-/* The stack of each call, in bytes: the greatest that tests/c/stack.c measured on a painted stack, on x86-64, of the archive as the toolchain compiles it.
-   Counted from the caller's call on: the arguments on the stack, the return address, and what the call writes below them. memset, memcpy and memmove of the
-   C library are counted with it; each took no more than its return address there. The figures are measured over the inputs of that test, up to full
-   sessions, and not proved. For another machine, compiler or C library they have to be measured again. What an interrupt puts on the same stack is not in them.
+/* The stack of each call, in bytes, on x86-64, of the archive as the toolchain compiles it: what to reserve. Counted from the caller's call on: the
+   arguments on the stack, the return address, and what the call writes below them. memset, memcpy and memmove of the C library are counted with it; each
+   took no more than its return address there. tests/c/stack.c measures the greatest of each call on a painted stack, over its inputs, up to full sessions,
+   and fails where it is more than is said here. The frames in the archive's code, summed along every path of calls, come to the same figures; only an
+   insertion has a path, of 29,704, that no input there takes (19,000). Measured and summed, not proved. For another machine, compiler or C library
+   they have to be measured again. What an interrupt puts on the same stack is not in them.
    No function of the engine calls itself, directly or through others, but one: the visit of the depth-first walk, which only trigger_order uses. A visit
    begins only at a state not yet visited, and the number of states not yet visited falls with each visit in a visit, by its proof
    (crates/walk_order/proofs): at most 16 are under way at once, the first one counted. */
@@ -48,8 +50,8 @@ enum {
     TRIGGER_STACK_CHANGE_PLACES = 8,
     /* an accepted load: one state and no node needed as much as a full one */
     TRIGGER_STACK_LOAD = 19288,
-    /* a session with marks, whose layout is tested: a refused insertion needed as much as an accepted one */
-    TRIGGER_STACK_INSERT = 19000,
+    /* measured: 19,000, with a session whose marks are tested against its layout; a refused insertion needed as much as an accepted one */
+    TRIGGER_STACK_INSERT = 29704,
     /* a ring opened: its edges are indexed */
     TRIGGER_STACK_DELETE = 29704,
     /* these three: a session with marks, whose layout is tested */

@@ -1,6 +1,6 @@
 /* The greatest stack of each call, measured on x86-64. Each call runs on a stack of its own that is filled with a pattern, and the deepest byte that is not
-   the pattern afterwards tells how much was written. Standard output is compared with stack.expected; a call that needs more than the header says is a
-   line of its own, and the program fails.
+   the pattern afterwards tells how much was written. Standard output tells the figures; a call that needs more than the header says is a line of its own,
+   and the program fails.
 
    What is counted: the bytes from the caller's call on, which are the arguments on the stack, the return address, and all below. What lies above is
    the trampoline's: it is measured with a function that does nothing in place of the call, and taken off. Each run is made twice with two patterns and the

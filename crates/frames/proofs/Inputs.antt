@@ -19,7 +19,7 @@ use Rattle.frames.specs.Outputs.{each}
 use Rattle.frames.specs.Machine.{Memory, memory, outputSize, Stepped}
 use Rattle.frames.specs.Moments.{start, output, program}
 use Rattle.frames.specs.Program.{Line, lent, LineByLine, ended, taken, printedBy, bytesOf, Fresh, Whole}
-use Rattle.frames.specs.Blocks.{inputRules, Point, point, outputAfter, withOutput, GoesOn, Walks, stops, begins, answers, BlockTaken, InputEnded, Calls, block, end}
+use Rattle.frames.specs.Blocks.{inputRules, Point, point, outputAfter, withOutput, GoesOn, Walks, stops, begins, answers, BlockTaken, InputEnded, Calls, block, again, end}
 use Rattle.frames.proofs.Fronts.{Like, like-frame, like-more, keeps-front, keeps-long, line-open, lines-open, lines-ended}
 use Rattle.frames.proofs.Takes.{rules-passed, passed-rules}
 use Rattle.frames.proofs.Walking.{input-passed, unrefused}
@@ -212,10 +212,25 @@ end-passed : (m : Memory) (front : List ℕ) (used : ℕ) (r : Progress) (m' : M
 end-passed m front used r m' t told =
     ⊎-elim (λ ok. ok) (λ bad. absurd (bad (sym (t .refuses bad .0 .0) ∙ told))) (accepts-or (verdict (inputRules m front)))
 
+-- one that is refused takes nothing and prints nothing
+again-takes : (m : Memory) (input output : List ℕ) (room : List ℤ) (out front : List ℕ) (used : ℕ) (r : Progress) (m' : Memory) (line : List ℕ)
+    → InputEnded (lent m room out) front used r m' → (r .rule ≡ 0 → ⊥) → Taking m' line input [] output
+    → Taking m line input [] (take (r .written) (m' .out) ++ output)
+again-takes m input output room out front used r m' line t some n =
+    let u = t .refuses (λ ok. some (t .told ok .0)) in
+    record {
+      taken-lines = n .taken-lines;
+      goes = lend m room out (n .taken-lines) (subst (λ (x : Memory). LineByLine x (n .taken-lines)) (u .1) (n .goes));
+      prints = n .prints ∙ ap (λ (k : ℕ). take k (m' .out) ++ output) (sym (u .0 .1));
+      frames = n .frames;
+    }
+
 pub calls-take : {m : Memory} {begun input output : List ℕ} → Calls m begun input output → (line : List ℕ) → Like begun line
     → Taking m line input [] output
 calls-take {m} {begun} {input} (block {output = output} room out front used bytes more r m' front' begun-is input-is t w) line like =
     block-takes m begun input output room out front used bytes more r m' front' begun-is input-is t (λ line' k. calls-take w line' k) line like
+calls-take {m} {input = input} (again {output = output} room out front used r m' begun-is t some w) line like =
+    again-takes m input output room out front used r m' line t some (calls-take w line like)
 calls-take {m} {begun} (end room out front used r m' begun-is t told) line like =
     end-takes m begun room out front used r m' begun-is t (end-passed (lent m room out) front used r m' t told) line like
 

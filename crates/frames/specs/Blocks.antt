@@ -79,6 +79,11 @@ pub data Calls : Memory → List ℕ → List ℕ → List ℕ → Type 0 where
       → BlockTaken (lent m room out) front used bytes r m' front'
       → Calls m' (take (r .begun) front') (drop (r .at) bytes ++ more) output
       → Calls m begun input (take (r .written) (m' .out) ++ output)
+  -- an end that the lent memory refuses
+  again : {m : Memory} {begun input output : List ℕ} (room : List ℤ) (out front : List ℕ) (used : ℕ) (r : Progress) (m' : Memory)
+      → take used front ≡ begun → InputEnded (lent m room out) front used r m' → (r .rule ≡ 0 → ⊥)
+      → Calls m' begun input output
+      → Calls m begun input (take (r .written) (m' .out) ++ output)
   -- the end, in memory that is not refused
   end : {m : Memory} {begun : List ℕ} (room : List ℤ) (out front : List ℕ) (used : ℕ) (r : Progress) (m' : Memory) → take used front ≡ begun
       → InputEnded (lent m room out) front used r m' → r .rule ≡ 0
