@@ -13,7 +13,7 @@ use line_gathering::gather;
 use line_gathering::within;
 
 // The first rule that the lent memory breaks, or 0.
-pub fn memory_rule(
+fn memory_rule(
     counts: &[u32],
     words: &[u16],
     session: &[u32],
@@ -39,9 +39,9 @@ pub fn memory_rule(
     0
 }
 
-// Walks over the block, in memory that breaks none of its own rules. The walk ends with the block, or where the output has no room for one
+// Passes over the block, in memory that breaks none of its own rules. The walk ends with the block, or where the output has no room for one
 // answer more.
-pub fn walk_block(
+fn pass_over(
     counts: &mut [u32],
     words: &mut [u16],
     session: &mut [u32],
@@ -52,7 +52,7 @@ pub fn walk_block(
     out: &mut [u8],
 ) -> Progress
     requires { ⌜ verdict (b.inputRules (memory (now counts) (now words) (now session) (now changes) (now out)) (now front)) ≡ 0 ⌝ }
-    ensures { λ r. ⌜ (r .rule ≡ 0) × b.Walks (now (block .entry)) (b.point (now (front .entry)) begun 0 0 (memory (now (counts .entry)) (now (words .entry)) (now (session .entry)) (now (changes .entry)) (now (out .entry)))) (b.point (now (front .exit)) (r .begun) (r .at) (r .written) (memory (now (counts .exit)) (now (words .exit)) (now (session .exit)) (now (changes .exit)) (now (out .exit)))) ⌝ }
+    ensures { λ r. ⌜ (r .rule ≡ 0) × b.Passes (now (block .entry)) (b.point (now (front .entry)) begun 0 0 (memory (now (counts .entry)) (now (words .entry)) (now (session .entry)) (now (changes .entry)) (now (out .entry)))) (b.point (now (front .exit)) (r .begun) (r .at) (r .written) (memory (now (counts .exit)) (now (words .exit)) (now (session .exit)) (now (changes .exit)) (now (out .exit)))) ⌝ }
 {
     let mut at = 0;
     let mut line = begun;
@@ -105,7 +105,7 @@ pub fn answer_block(
             begun,
         };
     }
-    walk_block(counts, words, session, changes, front, begun, block, out)
+    pass_over(counts, words, session, changes, front, begun, block, out)
 }
 
 // Answers the line that the input's end ends, if one was begun.

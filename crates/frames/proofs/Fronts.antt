@@ -14,7 +14,7 @@ use Rattle.simulation.proofs.Sets.{clash, and-none}
 use Rattle.simulation.proofs.Search.{lt-or-le}
 use Rattle.frames.specs.Digits.{hexadecimal, number}
 use Rattle.frames.specs.Frames.{nothing, spoken, frameOf}
-use Rattle.frames.specs.Lines.{linesAfter, lineEnds, lineIn, kept, frontWith, Keeps, Gathers}
+use Rattle.frames.specs.Lines.{linesAfter, lineEnds, lineIn, frontSize, frontWith, Keeps, Gathers}
 
 -- ---- the front of a line tells its frame
 
@@ -43,7 +43,7 @@ pub like-frame : (front line : List ℕ) → Like front line → frameOf front �
 like-frame front line h = ⊎-elim (λ e. ap frameOf e) (λ l. line-long front (l .0) ∙ sym (line-long line (l .1))) h
 
 -- with the same bytes after both, and of the front no more than a memory holds
-pub like-more : (n : ℕ) (front line bytes : List ℕ) → kept ≤ n → Like front line → Like (take n (front ++ bytes)) (line ++ bytes)
+pub like-more : (n : ℕ) (front line bytes : List ℕ) → frontSize ≤ n → Like front line → Like (take n (front ++ bytes)) (line ++ bytes)
 like-more n front line bytes h k =
     ⊎-elim
     (λ e.
@@ -55,7 +55,7 @@ like-more n front line bytes h k =
     k
 
 -- of a line a front longer than any frame is enough
-pub front-enough : (n : ℕ) (line : List ℕ) → kept ≤ n → frameOf (take n line) ≡ frameOf line
+pub front-enough : (n : ℕ) (line : List ℕ) → frontSize ≤ n → frameOf (take n line) ≡ frameOf line
 front-enough n line h = like-frame (take n line) line (like-more n [] [] line h (inl refl))
 
 -- ---- bytes kept after a front

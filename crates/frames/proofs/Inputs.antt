@@ -2,27 +2,28 @@
 use Prim.Native.Nat.{ℕ, suc, _+_, _<_, _≤_}
 use native.Mathlib.Omega.{arith}
 use mathlib.Core.Path.{_≡_, refl, sym, _∙_, ap, ap₂, subst}
-use mathlib.Core.Logic.{_⊎_, inl, ⊎-elim}
+use mathlib.Core.Logic.{inl, ⊎-elim}
 use mathlib.Core.Bool.{Bool, true, false}
 use mathlib.Core.List.{List, [], _∷_, _++_, map, append-nil, append-assoc}
 use lib.IntN.{ℤ}
 use lib.ListN.{length, take, drop, length-take}
 use lib.Seq.{length-take-le, take-append-add, drop-drop, drop-length}
 use Rattle.session.specs.Limits.{maxChanges}
-use Rattle.promises.specs.Rules.{rule, verdict}
+use Rattle.promises.specs.Rules.{verdict}
 use Rattle.promises.proofs.Verdicts.{accepts-or}
 use Rattle.frames.specs.declared.Progress.{Progress}
 use Rattle.frames.specs.declared.Taken.the-variants as T
 use Rattle.frames.specs.Frames.{Frame, frameOf}
-use Rattle.frames.specs.Lines.{linesAfter, lineIn, kept, Gathers}
+use Rattle.frames.specs.Lines.{linesAfter, lineIn, frontSize, Gathers}
 use Rattle.frames.specs.Outputs.{each}
-use Rattle.frames.specs.Machine.{Memory, memory, outputSize, Stepped}
-use Rattle.frames.specs.Moments.{start, output, program}
-use Rattle.frames.specs.Program.{Line, lent, LineByLine, ended, taken, printedBy, bytesOf, Fresh, Whole}
-use Rattle.frames.specs.Blocks.{inputRules, Point, point, outputAfter, withOutput, GoesOn, Walks, stops, begins, answers, BlockTaken, InputEnded, Calls, block, again, end}
+use Rattle.frames.specs.Machine.{Memory, outputSize, Stepped}
+use Rattle.frames.specs.Moments.{start, program}
+use Rattle.frames.specs.Moments as moments
+use Rattle.frames.specs.Program.{Line, lent, LineByLine, ended, taken, printedBy, bytesOf, Fresh}
+use Rattle.frames.specs.Blocks.{inputRules, Point, point, outputAfter, withOutput, GoesOn, Passes, stops, begins, answers, BlockTaken, InputEnded, InputCalls, block, again, end, InputAnswered}
 use Rattle.frames.proofs.Fronts.{Like, like-frame, like-more, keeps-front, keeps-long, line-open, lines-open, lines-ended}
 use Rattle.frames.proofs.Takes.{rules-passed, passed-rules}
-use Rattle.frames.proofs.Walking.{input-passed, unrefused}
+use Rattle.frames.proofs.Passing.{input-passed, unrefused}
 use Rattle.frames.proofs.Programs.{whole}
 
 -- ---- lines that make the output
@@ -51,7 +52,7 @@ module _ (bytes more output : List ℕ) where
   abbrev From : Point → List ℕ → Type 0
   From p begun = Taking (p .memory) begun (drop (p .at) bytes ++ more) (take (p .written) (p .memory .out)) output
 
-  module _ (p : Point) (begun front' : List ℕ) (begun' at' : ℕ) (like : Like (take (p .begun) (p .front)) begun) (long : kept ≤ length (p .front)) where
+  module _ (p : Point) (begun front' : List ℕ) (begun' at' : ℕ) (like : Like (take (p .begun) (p .front)) begun) (long : frontSize ≤ length (p .front)) where
     abbrev rest : List ℕ
     rest = drop (p .at) bytes
 
@@ -109,16 +110,16 @@ module _ (bytes more output : List ℕ) where
               ∙ ap (map frameOf) (sym (lines-ended begun rest more (sym (g .told))));
         }
 
-  walk-takes : {p q : Point} → Walks bytes p q → (begun : List ℕ) → Like (take (p .begun) (p .front)) begun → kept ≤ length (p .front)
+  pass-takes : {p q : Point} → Passes bytes p q → (begun : List ℕ) → Like (take (p .begun) (p .front)) begun → frontSize ≤ length (p .front)
       → ((begun' : List ℕ) → Like (take (q .begun) (q .front)) begun' → From q begun') → From p begun
-  walk-takes (stops h) begun like long then = then begun like
-  walk-takes {p} (begins front' begun' at' on g w) begun like long then =
+  pass-takes (stops h) begun like long then = then begun like
+  pass-takes {p} (begins front' begun' at' on g w) begun like long then =
       let k = keeps-long (p .front) (p .begun) _ front' begun' (g .front) in
       from-open p begun front' begun' at' like long g
-      (walk-takes w _ (like-line p begun front' begun' at' like long false g) (omega (arith, k, long)) then)
-  walk-takes {p} (answers front' begun' at' n left on g s w) begun like long then =
+      (pass-takes w _ (like-line p begun front' begun' at' like long false g) (omega (arith, k, long)) then)
+  pass-takes {p} (answers front' begun' at' n left on g s w) begun like long then =
       let k = keeps-long (p .front) (p .begun) _ front' begun' (g .front) in
-      from-line p begun front' begun' at' like long n left on g s (walk-takes w [] (inl refl) (omega (arith, k, long)) then)
+      from-line p begun front' begun' at' like long n left on g s (pass-takes w [] (inl refl) (omega (arith, k, long)) then)
 
 -- ---- the calls one after the other
 
@@ -136,7 +137,7 @@ module _ (m : Memory) (begun input output : List ℕ) (room : List ℤ) (out fro
   block-carried : verdict (inputRules (lent m room out) front) ≡ 0 → Taking m line input [] (take (r .written) (m' .out) ++ output)
   block-carried ok =
       let w =
-      walk-takes bytes more all (t .walks ok .1) line (subst (λ (x : List ℕ). Like x line) (sym begun-is) like) (input-passed mine front ok .1)
+      pass-takes bytes more all (t .passes ok .1) line (subst (λ (x : List ℕ). Like x line) (sym begun-is) like) (input-passed mine front ok .1)
       (λ line' k.
       let n = then line' k in
       record { taken-lines = n .taken-lines; goes = n .goes; prints = ap (λ (x : List ℕ). take (r .written) (m' .out) ++ x) (n .prints); frames = n .frames }) in
@@ -225,7 +226,7 @@ again-takes m input output room out front used r m' line t some n =
       frames = n .frames;
     }
 
-pub calls-take : {m : Memory} {begun input output : List ℕ} → Calls m begun input output → (line : List ℕ) → Like begun line
+pub calls-take : {m : Memory} {begun input output : List ℕ} → InputCalls m begun input output → (line : List ℕ) → Like begun line
     → Taking m line input [] output
 calls-take {m} {begun} {input} (block {output = output} room out front used bytes more r m' front' begun-is input-is t w) line like =
     block-takes m begun input output room out front used bytes more r m' front' begun-is input-is t (λ line' k. calls-take w line' k) line like
@@ -236,14 +237,14 @@ calls-take {m} {begun} (end room out front used r m' begun-is t told) line like 
 
 -- ---- the theorem
 
-module _ (m : Memory) (input out : List ℕ) (fresh : Fresh m) (calls : Calls m [] input out) where
-  abbrev from : Taking m [] input [] out
-  from = calls-take calls [] (inl refl)
+-- the calls take the lines of the input one after the other, and the demands hold of these lines
+pub input-answered : (m : Memory) (input output : List ℕ) → Fresh m → InputCalls m [] input output → InputAnswered m input output
+input-answered m input output fresh calls =
+    let t = calls-take calls [] (inl refl) in
+    record { lines = t .taken-lines; taken = t .goes; prints = t .prints; frames = t .frames; whole = whole m (t .taken-lines) fresh (t .goes) }
 
-  -- the outputs one after the other are those of the program
-  pub prints-program : out ≡ program input
-  prints-program = sym (from .prints) ∙ whole m (from .taken-lines) fresh (from .goes) .prints ∙ ap (output start) (from .frames)
-
-  -- and the demands hold of the lines
-  pub demands-throughout : Whole start m (from .taken-lines)
-  demands-throughout = whole m (from .taken-lines) fresh (from .goes)
+-- so the outputs one after the other are those of the program
+pub prints-program : (m : Memory) (input output : List ℕ) → Fresh m → InputCalls m [] input output → output ≡ program input
+prints-program m input output fresh calls =
+    let a = input-answered m input output fresh calls in
+    sym (a .prints) ∙ a .whole .prints ∙ ap (moments.output start) (a .frames)

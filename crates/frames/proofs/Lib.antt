@@ -9,7 +9,7 @@ pub mod Few
 pub mod Kept
 pub mod Played
 pub mod Programs
-pub mod Walking
+pub mod Passing
 pub mod Inputs
 pub mod Samples
 pub mod Takes

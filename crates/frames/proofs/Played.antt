@@ -51,7 +51,7 @@ module _ (p : Moment) (f : Frame) where
   unfolding printed next
   printed-refused n e some = (rw (e, ne-eqb n 0 some), rw (e, ne-eqb n 0 some))
 
-  pub printed-lines : broken p f ≡ 0 → (printed p f ≡ reply p f .lines) × (next p f ≡ reply p f .moment)
+  pub printed-lines : broken p f ≡ 0 → (printed p f ≡ reply p f .bytes) × (next p f ≡ reply p f .moment)
   unfolding printed next
   printed-lines e = (rw e, rw e)
 
@@ -94,9 +94,9 @@ told-refused : (p : Moment) (f : Frame) (m : Memory) (n : ℕ) (m' : Memory) (k 
 told-refused p f m n m' k e some h w = told-by p f m n m' (refusal k) p m (printed-refused p f k e some) refl (λ bad. refl) h w
 
 told-lines : (p : Moment) (f : Frame) (m : Memory) (n : ℕ) (m' m⁺ : Memory) → broken p f ≡ 0 → m⁺ .out ≡ m .out → AtMoment (reply p f .moment) m⁺
-    → Prints (reply p f .lines) m⁺ n m' → Told p f m n m'
+    → Prints (reply p f .bytes) m⁺ n m' → Told p f m n m'
 told-lines p f m n m' m⁺ e same h w =
-    told-by p f m n m' (reply p f .lines) (reply p f .moment) m⁺ (printed-lines p f e) same (λ bad. absurd (bad e)) h w
+    told-by p f m n m' (reply p f .bytes) (reply p f .moment) m⁺ (printed-lines p f e) same (λ bad. absurd (bad e)) h w
 
 -- ---- states and nodes
 

@@ -8,14 +8,14 @@ use mathlib.Core.List.{List, [], _∷_, _++_}
 use lib.ListN.{length, getD, take, drop}
 use lib.Seq.{take-append-seam}
 use Rattle.session.specs.Limits.{maxChanges}
-use Rattle.promises.specs.Answers.{Outcome, accepted}
+use Rattle.promises.specs.Answers.{Outcome, accepted, outcome}
 use Rattle.promises.specs.Rules.{insertion, deletion, Given, Rule, rule, verdict}
-use Rattle.promises.specs.Model.{Model}
-use Rattle.promises.specs.Demands.{Call, Faithful}
+use Rattle.promises.specs.Model.{Model, loadSummary}
+use Rattle.promises.specs.Demands.{Faithful}
 use Rattle.promises.specs.Demands as demands
 use Rattle.promises.proofs.Verdicts.{Lacks, verdict-skip, verdict-lacks}
 use Rattle.promises.proofs.Demands.{demand2, demand3, kept}
-use Rattle.promises.proofs.Told.{same-load, same-step}
+use Rattle.promises.proofs.Told.{same-load, load-told, load-list, edit-told, same-step}
 use Rattle.frames.specs.Frames.{Frame, state, node, run, edit, walk, nothing, frameOf}
 use Rattle.frames.specs.Outputs.{each}
 use Rattle.frames.specs.Machine.{Memory, outputSize, Ready, readSoFar, memoryRules, toldTaken, Prints, Before, After, Stepped}
@@ -31,6 +31,7 @@ use Rattle.frames.specs.Program.{
   Fresh,
   AtMoment,
   LineDemand1,
+  callOf,
   Demanded,
   Whole,
 }
@@ -64,6 +65,9 @@ module _ (m : Memory) (l : Line) (wide : maxChanges ≤ length (l .room)) (n : �
       let fine = same-load x (m .session) (l .room) (r .session) wide ∙ ok in
       record {
         answer = w .answer;
+        tells = load-told x (m .session) (l .room) (r .session) wide (w .answer) (l .left .session) (l .left .room) (w .loads)
+            ∙ ap (λ (v : ℕ). outcome v (loadSummary x)) ok;
+        list = load-list x (m .session) (l .room) (r .session) wide (w .answer) (l .left .session) (l .left .room) (w .loads) ok;
         prints = printed-front l n _ _ says (w .prints);
         demand2 = demand2 x (m .session) (l .room) (w .answer) (l .left .session) (l .left .room) (w .loads) fine;
         demand3 = demand3 x (m .session) (l .room) (w .answer) (l .left .session) (l .left .room) (w .loads) fine;
@@ -75,13 +79,12 @@ module _ (m : Memory) (l : Line) (wide : maxChanges ≤ length (l .room)) (n : �
   before-demanded r nothing w = tt
 
   after-demanded : (b : Model) → Faithful b (m .session) → (f : Frame) → After f (lent m (l .room) (l .out)) n (l .left) → Demanded (running b) f l
+  unfolding broken
   after-demanded b f (edit k u v) w =
-      let c : Call =
-      record { kind = k; start = u; end = v; room = l .room; answer = w .answer; session = l .left .session; changes = l .left .room } in
+      let c = callOf k u v l (w .answer) in
       record {
-        call = c;
-        asked = (refl, refl, refl, refl);
-        left = (refl, refl);
+        answer = w .answer;
+        tells = edit-told b (m .session) f k u v (l .room) (w .answer) (l .left .session) (l .left .room) wide (w .edits);
         prints = printed-front l n _ _ says (w .prints);
         kept = subst (λ (b' : Model). demands.Kept b b' c)
             (same-step b (m .session) f k u v (l .room) (w .answer) (l .left .session) (l .left .room) wide (w .edits))
@@ -137,6 +140,7 @@ module _ (p : Moment) (m : Memory) (l : Line) (c : Comes p m l) where
   line-demand1 =
       let f = frameOf (l .bytes) in
       record {
+        taken = c .says ∙ ap accepted (c .told .many);
         carried = λ ok. (
           line-prints ∙ printed-lines p f ok .0,
           subst (λ (q : Moment). AtMoment q (l .left)) (printed-lines p f ok .1) (c .told .holds),
@@ -148,13 +152,12 @@ module _ (p : Moment) (m : Memory) (l : Line) (c : Comes p m l) where
 
 whole-from : (p : Moment) (m : Memory) (ls : List Line) → AtMoment p m → LineByLine m ls → Whole p m ls
 unfolding output each
-whole-from p m [] h ended = record { prints = refl; taken = tt; demands = tt }
+whole-from p m [] h ended = record { prints = refl; demands = tt }
 whole-from p m (l ∷ ls) h (taken wide long s more) =
     let c = comes p m l h wide long s in
     let rest = whole-from (next p (frameOf (l .bytes))) (l .left) ls (c .told .holds) more in
     record {
       prints = ap₂ _++_ (line-prints p m l c) (rest .prints);
-      taken = ((c .count, c .says), rest .taken);
       demands = (line-demand1 p m l c, c .demanded, rest .demands);
     }
 

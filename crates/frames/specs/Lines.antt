@@ -15,7 +15,7 @@ linesAfter begun (c ∷ cs) = cond (eqb c 10) (begun ∷ linesAfter [] cs) (line
 abbrev pub lines : List ℕ → List (List ℕ)
 lines = linesAfter []
 
--- whether a line ends in the bytes, and the bytes before the line feed: all of them where there is none
+-- whether a line ends in the bytes; and the bytes before its line feed, which are all of them where none ends
 unfoldable pub lineEnds : List ℕ → Bool
 lineEnds [] = false
 lineEnds (c ∷ cs) = eqb c 10 || lineEnds cs
@@ -25,8 +25,8 @@ lineIn [] = []
 lineIn (c ∷ cs) = cond (eqb c 10) [] (c ∷ lineIn cs)
 
 -- one byte more than the longest frame has: a line of so many bytes is no frame
-abbrev pub kept : ℕ
-kept = 15
+abbrev pub frontSize : ℕ
+frontSize = 15
 
 -- The front of a line is kept in a memory: what was begun there and the bytes after it, as far as there is room.
 abbrev pub frontWith : List ℕ → ℕ → List ℕ → List ℕ
@@ -36,7 +36,8 @@ pub record Keeps (memory : List ℕ) (used : ℕ) (bytes memory' : List ℕ) (us
   pub many : used' ≡ length (frontWith memory used bytes)
   pub left : memory' ≡ frontWith memory used bytes ++ drop (length (frontWith memory used bytes)) memory
 
--- Bytes of a block taken after a front, from the place `at` on: those before the line feed, and the place after it; or all of them.
+-- Bytes of a block, from the place `at` on, are kept after a front up to the first line feed, and the next place is the one after it. Where there
+-- is none, all are taken.
 pub record Gathers (memory : List ℕ) (used : ℕ) (block : List ℕ) (at : ℕ) (memory' : List ℕ) (used' at' : ℕ) (ended : Bool) : Type 0 where
   pub front : Keeps memory used (lineIn (drop at block)) memory' used'
   pub told : ended ≡ lineEnds (drop at block)

@@ -69,7 +69,7 @@ readSoFar m =
     let n = statesRead m in
     given (part (m .words) 0 n) (part (m .words) valuesIn n) (part (m .counts) linksIn n) (part (m .words) samplesIn (nodesRead m)) [] []
 
--- what the memory itself may break: too short, or counts that are none
+-- what the memory itself may break: too short, or counts out of range
 abbrev pub tooSmall : Memory → Bool
 tooSmall m =
     (ltb (length (m .counts)) countsSize || ltb (length (m .words)) wordsSize)

@@ -37,14 +37,14 @@ runLines x = answered (accepted (loadSummary x)) (loadList (givenTrigger x) (giv
 abbrev pub editLines : Model → Kind → ℕ → ℕ → List ℕ
 editLines m k a b = answered (accepted (editSummary m k a b)) (editList m k a b)
 
--- what a frame meets: the rules in sequence, and where it breaks none, the lines that it prints and the moment after it
+-- what a frame meets: the rules in sequence, and where it breaks none, the bytes that it prints and the moment after it
 pub record Reply : Type 0 where
   pub rules : List Rule
-  pub lines : List ℕ
+  pub bytes : List ℕ
   pub moment : Moment
 
 abbrev pub carries : List Rule → List ℕ → Moment → Reply
-carries rules lines moment = record { rules = rules; lines = lines; moment = moment }
+carries rules bytes moment = record { rules = rules; bytes = bytes; moment = moment }
 
 abbrev pub breaks : ℕ → Moment → Reply
 breaks n moment = carries (rule n true ∷ []) [] moment
@@ -72,7 +72,7 @@ broken p f = verdict (reply p f .rules)
 
 -- "refused with the number of the first rule broken"; "A refused run leaves the program before its run, with the states and nodes read so far."
 unfoldable pub printed : Moment → Frame → List ℕ
-printed p f = cond (eqb (broken p f) 0) (reply p f .lines) (refusal (broken p f))
+printed p f = cond (eqb (broken p f) 0) (reply p f .bytes) (refusal (broken p f))
 
 unfoldable pub next : Moment → Frame → Moment
 next p f = cond (eqb (broken p f) 0) (reply p f .moment) p

@@ -6,8 +6,8 @@ pub enum Taken {
     Refused(u8),
 }
 
-// How far a call came in the input: the rule that the lent memory breaks, or 0; how many bytes of output it gave; how many bytes of the block
-// it took; and how long the front of the line begun then is.
+// How far a call came in the input: the rule that the lent memory breaks, or 0; how many bytes of output it wrote; how many bytes of the block
+// it took; and how long the front of the line begun then is, or as it was lent where nothing was taken.
 pub struct Progress {
     pub rule: u8,
     pub written: usize,

@@ -7,11 +7,11 @@ use mathlib.Core.Bool.{false}
 use mathlib.Core.List.{List, [], _++_}
 use lib.IntN.{ℤ}
 use lib.ListN.{length, take, drop}
+use borrow.Author.Tests.{ne-eqb}
 use Rattle.session.specs.Limits.{maxStates, fixedSize}
 use Rattle.session.specs.Trigger.{Trigger, Graph, Marks, states}
 use Rattle.session.specs.Layout.{section, image, triggerOf, graphOf, marksOf}
 use Rattle.session.proofs.Tables.{take-section}
-use Rattle.session.proofs.Image.{drop-image}
 use Rattle.session.proofs.Decoded.{trigger-image, graph-image, marks-image, layout-facts}
 use Rattle.listing.specs.Changes.{changes}
 use Rattle.listing.specs.Order.{order}
@@ -82,19 +82,21 @@ reported-list t g m trials list c r c' w =
     ap (λ (room : List ℤ). handedBack room r) (w .room) ∙ handed-back list (drop (length list) c) r (ap changesTold (w .answer))
 
 load-carried : (x : Given) (s : List ℕ) (c : List ℤ) (r : Answer) (s' : List ℕ) (c' : List ℤ) → Loaded x s c r s' c'
-    → verdict (loadRules (length s) (length c) x) ≡ 0 → LoadCarried x s r s' c'
+    → verdict (loadRules (length s) (length c) x) ≡ 0 → LoadCarried x s c r s' c'
 load-carried x s c r s' c' p ok =
     let w = p .accepts ok in
     let f = faithful-load x s c r s' c' p ok in
     let t = givenTrigger x in
     let g = givenGraph x in
+    let list = reported-list t g (stands t g) (loadTrials t g) (loadList t g) c r c' (w .1) in
     record {
+      session = w .0;
       trigger = holds-trigger (begun x) s' f;
       graph = holds-graph (begun x) s' f;
       marks = holds-marks (begun x) s' f;
-      beyond = ap (drop fixedSize) (w .0) ∙ drop-image t g (stands t g) (drop fixedSize s);
       tells = w .1 .answer;
-      list = reported-list t g (stands t g) (loadTrials t g) (loadList t g) c r c' (w .1);
+      list = list;
+      room = w .1 .room ∙ ap (λ (l : List ℤ). l ++ drop (length l) c) (sym list);
     }
 
 edit-carried : (k : Kind) (s : List ℕ) (a b : ℕ) (c : List ℤ) (r : Answer) (s' : List ℕ) (c' : List ℤ) → Edited k s a b c r s' c'
@@ -116,7 +118,7 @@ edit-carried k s a b c r s' c' p ok =
           ∙ ap (λ (h : Graph). changes t h (marksOf s) (marksOf s')) (sym graph);
     }
 
--- the order told, where no rule is broken
+-- the order told, where no rule is broken, and none where one is
 order-carried : (s : List ℕ) (r : StateOrder) → Ordered s r → verdict (questionRules s []) ≡ 0
     → take (states (triggerOf s)) (r .states) ≡ order (triggerOf s)
 order-carried s r p ok =
@@ -126,13 +128,16 @@ order-carried s r p ok =
     (ap (λ (n : ℕ). take n (section maxStates (order t))) (sym (order-length t))
     ∙ take-section maxStates (order t) (rw (order-length t) (f .trigger .few)))
 
+order-refused : (s : List ℕ) (r : StateOrder) → Ordered s r → (verdict (questionRules s []) ≡ 0 → ⊥) → r .states ≡ section maxStates []
+order-refused s r p bad = rw (p .states, ne-eqb (verdict (questionRules s [])) 0 bad)
+
 pub demand1 : Demand1
 demand1 = record {
   load = λ x s c r s' c' p.
       let n = verdict (loadRules (length s) (length c) x) in
       ⊎-elim
-      (λ ok. answered-accepted n s c r s' c' (LoadCarried x s r s' c') _ ok (p .accepts ok .1 .answer) (load-carried x s c r s' c' p ok))
-      (λ bad. answered-refused n s c r s' c' (LoadCarried x s r s' c') bad (p .refuses bad))
+      (λ ok. answered-accepted n s c r s' c' (LoadCarried x s c r s' c') _ ok (p .accepts ok .1 .answer) (load-carried x s c r s' c' p ok))
+      (λ bad. answered-refused n s c r s' c' (LoadCarried x s c r s' c') bad (p .refuses bad))
       (accepts-or n);
   edit = λ k s a b c r s' c' p.
       let n = verdict (editRules k s (length c) a b) in
@@ -142,7 +147,7 @@ demand1 = record {
       (accepts-or n);
   standing = λ s state v r p. p;
   firing = λ s r p. p;
-  order = λ s r p. (p .answer, order-carried s r p);
+  order = λ s r p. (p .answer, order-carried s r p, order-refused s r p);
 }
 
 -- ---- Demand 2

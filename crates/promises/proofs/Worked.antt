@@ -87,7 +87,7 @@ worked-orders : map order (self ∷ three ∷ []) ≡ ((1 ∷ []) ∷ (1 ∷ 3 �
 unfolding self three order visit fold elem linked
 worked-orders = refl
 
--- ---- the sequence of the rules: loads and insertions that break two rules each meet the first of them
+-- ---- the sequence of the rules: loads that break two neighbours each, one that breaks the last, one that breaks none
 
 many : ℕ → List ℕ
 many n = table n (λ i. i)
@@ -101,7 +101,7 @@ load-verdicts =
     verdict (loadRules 3122 8192 (given [] [] [] [] []))
     ∷ verdict (loadRules 3123 8191 (given [] [] [] [] []))
     ∷ verdict (loadRules 3123 8192 (given [] (2 ∷ []) [] [] []))
-    ∷ verdict (loadRules 3123 8192 (given (many 17) (many 17) [] [] []))
+    ∷ verdict (loadRules 3123 8192 (given (many 17) (131072 ∷ many 16) [] [] []))
     ∷ verdict (loadRules 3123 8192 (given (0 ∷ []) (2 ∷ []) (many 513) [] []))
     ∷ verdict (loadRules 3123 8192 (given (0 ∷ []) (1 ∷ []) (many 513) (0 ∷ []) []))
     ∷ verdict (loadRules 3123 8192 (given (0 ∷ []) (1 ∷ []) (0 ∷ []) (1 ∷ 0 ∷ []) (0 ∷ [])))

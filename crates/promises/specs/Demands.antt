@@ -6,9 +6,9 @@ use mathlib.Core.Bool.{true}
 use mathlib.Core.List.{List, [], _∷_, _++_}
 use lib.IntN.{ℤ}
 use lib.ListN.{length, take, drop}
-use Rattle.session.specs.Limits.{maxChanges, fixedSize}
+use Rattle.session.specs.Limits.{maxStates, maxChanges, fixedSize}
 use Rattle.session.specs.Trigger.{Trigger, Graph, Marks, states, linked, edge}
-use Rattle.session.specs.Layout.{image, validTrigger, validGraph, triggerOf, graphOf, marksOf}
+use Rattle.session.specs.Layout.{section, image, validTrigger, validGraph, triggerOf, graphOf, marksOf}
 use Rattle.listing.specs.Changes.{changes}
 use Rattle.listing.specs.Order as listing
 use Rattle.promises.specs.declared.Answer.{Answer}
@@ -18,7 +18,7 @@ use Rattle.promises.specs.declared.StateOrder.{StateOrder}
 use Rattle.promises.specs.Standing.{Simulation, stands, fires}
 use Rattle.promises.specs.Answers.{Outcome, accepted, refused, outcome, firesTold, told, toldStanding, toldFiring, toldOrder, handedBack}
 use Rattle.promises.specs.Rules.{Kind, insertion, deletion, Given, givenTrigger, givenGraph, edited, verdict, loadRules, editRules, questionRules, pairRules}
-use Rattle.promises.specs.Promises.{loadList, Loaded, Carried, Edited, Matches, Fires, Ordered}
+use Rattle.promises.specs.Promises.{Left, loadList, Loaded, Carried, Edited, Matches, Fires, Ordered}
 use Rattle.promises.specs.Model.{Model, begun, Edit, modelRules, step, freshly, loadSummary}
 
 -- ---- Demand 1
@@ -35,13 +35,14 @@ pub record Answered (n : ℕ) (s : List ℕ) (c : List ℤ) (r : Answer) (s' : L
   pub carried : n ≡ 0 → Effect
 
 -- what a load that is carried out leaves and tells: the trigger and graph given, with their greatest simulation, and the list of what stands
-pub record LoadCarried (x : Given) (s : List ℕ) (r : Answer) (s' : List ℕ) (c' : List ℤ) : Type 0 where
+pub record LoadCarried (x : Given) (s : List ℕ) (c : List ℤ) (r : Answer) (s' : List ℕ) (c' : List ℤ) : Type 0 where
+  pub session : Left (givenTrigger x) (givenGraph x) (stands (givenTrigger x) (givenGraph x)) s s'
   pub trigger : triggerOf s' ≡ givenTrigger x
   pub graph : graphOf s' ≡ givenGraph x
   pub marks : marksOf s' ≡ stands (givenTrigger x) (givenGraph x)
-  pub beyond : drop fixedSize s' ≡ drop fixedSize s
   pub tells : told r ≡ accepted (loadSummary x)
   pub list : handedBack c' r ≡ loadList (givenTrigger x) (givenGraph x)
+  pub room : c' ≡ handedBack c' r ++ drop (length (handedBack c' r)) c
 
 -- what an edit that is carried out leaves and tells: the edge in or out, and the list of the marks that changed; of the marks, see `Done`
 pub record EditCarried (k : Kind) (a b : ℕ) (s : List ℕ) (c : List ℤ) (r : Answer) (s' : List ℕ) (c' : List ℤ) : Type 0 where
@@ -50,10 +51,11 @@ pub record EditCarried (k : Kind) (a b : ℕ) (s : List ℕ) (c : List ℤ) (r :
   pub graph : graphOf s' ≡ edited k (graphOf s) a b
   pub list : handedBack c' r ≡ changes (triggerOf s) (graphOf s') (marksOf s) (marksOf s')
 
--- The questions tell what they are asked of the marks held. The lines of the frame program have a demand 1 of their own.
+-- The questions write nothing and tell what they are asked, of the marks held: that is their promise itself. The lines of the frame program have
+-- a demand 1 of their own.
 pub record Demand1 : Type 0 where
   pub load : (x : Given) (s : List ℕ) (c : List ℤ) (r : Answer) (s' : List ℕ) (c' : List ℤ)
-      → Loaded x s c r s' c' → Answered (verdict (loadRules (length s) (length c) x)) s c r s' c' (LoadCarried x s r s' c')
+      → Loaded x s c r s' c' → Answered (verdict (loadRules (length s) (length c) x)) s c r s' c' (LoadCarried x s c r s' c')
   pub edit : (k : Kind) (s : List ℕ) (a b : ℕ) (c : List ℤ) (r : Answer) (s' : List ℕ) (c' : List ℤ)
       → Edited k s a b c r s' c' → Answered (verdict (editRules k s (length c) a b)) s c r s' c' (EditCarried k a b s c r s' c')
   pub standing : (s : List ℕ) (state v : ℕ) (r : Standing) → Matches s state v r
@@ -63,6 +65,7 @@ pub record Demand1 : Type 0 where
   pub order : (s : List ℕ) (r : StateOrder) → Ordered s r
       → (toldOrder (r .answer) ≡ outcome (verdict (questionRules s [])) (states (triggerOf s)))
       × (verdict (questionRules s []) ≡ 0 → take (states (triggerOf s)) (r .states) ≡ listing.order (triggerOf s))
+      × ((verdict (questionRules s []) ≡ 0 → ⊥) → r .states ≡ section maxStates [])
 
 -- ---- Demand 2
 

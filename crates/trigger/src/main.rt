@@ -5,7 +5,7 @@ ghost use Prim.Native.Nat.{_≤_};
 ghost use lib.ListN.{length};
 ghost use Rattle.session.specs.Limits.{maxChanges};
 ghost use Rattle.promises.specs.Rules.{verdict};
-ghost use Rattle.frames.specs.Lines.{kept};
+ghost use Rattle.frames.specs.Lines.{frontSize};
 ghost use Rattle.frames.specs.Machine.{memory, outputSize};
 ghost use Rattle.frames.specs.Program.{Fresh};
 ghost use Rattle.frames.specs.Blocks.{inputRules};
@@ -108,7 +108,7 @@ fn answer_input(
     block: &mut [u8],
     out: &mut [u8],
 )
-    requires { ⌜ Fresh (memory (now counts) (now words) (now session) (now changes) (now out)) × (maxChanges ≤ length (now changes)) × (outputSize ≤ length (now out)) × (kept ≤ length (now front)) ⌝ }
+    requires { ⌜ Fresh (memory (now counts) (now words) (now session) (now changes) (now out)) × (maxChanges ≤ length (now changes)) × (outputSize ≤ length (now out)) × (frontSize ≤ length (now front)) ⌝ }
 {
     let begun = answer_blocks(counts, words, session, changes, front, block, out);
     if begun.open {

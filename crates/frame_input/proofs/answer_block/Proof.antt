@@ -2,7 +2,7 @@
 use borrow.Author.Needs.{needs}
 use mathlib.Core.Path.{refl}
 use Rattle.frames.specs.Machine.{Memory, memory}
-use Rattle.frames.proofs.Walking.{unbroken-input, block-refused, block-walked}
+use Rattle.frames.proofs.Passing.{unbroken-input, block-refused, block-passed-over}
 use Rattle.frame_input.proofs.answer_block.Statement.{statement}
 use Rattle.frame_input.proofs.answer_block.Tie as tie
 
@@ -36,8 +36,8 @@ returns c =
     let s = c .before .before .before .before .before .before .before .before .before .before .before .before .before .before in
     block-refused (lent s) (s .args .front .now) (s .args .begun) _ _ (c .before .memory-rule .ensures) (c .if1 .taken) (refl, refl, refl, refl) (s .args .block .now)
 
-walk-block-requires : tie.Need-walk-block-requires
-walk-block-requires c κs =
+pass-over-requires : tie.Need-pass-over-requires
+pass-over-requires c κs =
     let s = c .before .before .before .before .before .before .before .before .before .before .before .before .before .before .before .before .before .before .before .before in
     unbroken-input (lent s) (s .args .front .now) _ (c .before .before .before .before .before .before .before .memory-rule .ensures) (c .before .before .before .before .before .before .if1 .left)
 
@@ -62,8 +62,8 @@ same-length-12 c = search needs
 returns-2 : tie.Need-returns-2
 returns-2 c =
     let s = c .before .before .before .before .before .before .before .before .before .before .before .before .before .before .before .before .before .before .before .before .before .before .before .before .before .before .before .before .before .before .before .before in
-    let w = c .before .before .before .before .before .before .before .before .before .before .before .walk-block in
-    block-walked (lent s) (s .args .front .now) (s .args .begun) _ (w .result) (c .before .before .before .before .before .before .before .before .before .before .before .before .before .before .before .before .before .before .before .memory-rule .ensures) (c .before .before .before .before .before .before .before .before .before .before .before .before .before .before .before .before .before .before .if1 .left) (s .args .block .now) _ _
+    let w = c .before .before .before .before .before .before .before .before .before .before .before .pass-over in
+    block-passed-over (lent s) (s .args .front .now) (s .args .begun) _ (w .result) (c .before .before .before .before .before .before .before .before .before .before .before .before .before .before .before .before .before .before .before .memory-rule .ensures) (c .before .before .before .before .before .before .before .before .before .before .before .before .before .before .before .before .before .before .if1 .left) (s .args .block .now) _ _
     (w .ensures)
 
 pub answer-block-spec : {M : Type 1} → statement M
@@ -78,7 +78,7 @@ answer-block-spec =
     same-length-5
     same-length-6
     returns
-    walk-block-requires
+    pass-over-requires
     same-length-7
     same-length-8
     same-length-9

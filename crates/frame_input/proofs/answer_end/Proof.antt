@@ -5,7 +5,7 @@ use lib.Seq.{length-take-le}
 use Rattle.frames.specs.Machine.{Memory, memory}
 use Rattle.frames.proofs.Fronts.{keeps-inside}
 use Rattle.frames.proofs.Takes.{passed-rules}
-use Rattle.frames.proofs.Walking.{input-passed, unbroken-input, end-refused, end-none, end-line}
+use Rattle.frames.proofs.Passing.{input-passed, unbroken-input, end-refused, end-none, end-line}
 use Rattle.frame_input.proofs.answer_end.Statement.{statement}
 use Rattle.frame_input.proofs.answer_end.Tie as tie
 

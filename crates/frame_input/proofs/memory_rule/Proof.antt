@@ -7,7 +7,7 @@ use mathlib.Core.Logic.{⊎-elim}
 use lib.ListN.{length}
 use Rattle.frames.specs.Machine.{Memory, memory, countsSize}
 use Rattle.frames.proofs.Takes.{long-enough}
-use Rattle.frames.proofs.Walking.{rule-short, rule-front, rule-counts, rule-none}
+use Rattle.frames.proofs.Passing.{rule-short, rule-front, rule-counts, rule-none}
 use Rattle.frame_input.proofs.memory_rule.Statement.{statement}
 use Rattle.frame_input.proofs.memory_rule.Tie as tie
 

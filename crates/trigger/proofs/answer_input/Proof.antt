@@ -4,7 +4,7 @@ use Prim.Native.Nat.{_≤_}
 use mathlib.Core.Path.{sym}
 use lib.ListN.{length}
 use lib.Seq.{length-take-le}
-use Rattle.frames.proofs.Walking.{fresh-passed, end-written}
+use Rattle.frames.proofs.Passing.{fresh-passed, end-written}
 use Rattle.trigger.proofs.answer_input.Statement.{statement}
 use Rattle.trigger.proofs.answer_input.Tie as tie
 

@@ -9,7 +9,7 @@ use lib.Seq.{length-take-le}
 use Rattle.promises.specs.Rules.{verdict}
 use Rattle.frames.specs.Machine.{Memory, memory}
 use Rattle.frames.specs.Blocks.{inputRules, BlockTaken}
-use Rattle.frames.proofs.Walking.{block-at, block-goes, block-written, block-passed}
+use Rattle.frames.proofs.Passing.{block-at, block-goes, block-written, block-passed}
 use Rattle.trigger.proofs.answer_whole.Statement.{statement}
 use Rattle.trigger.proofs.answer_whole.Tie as tie
 

@@ -17,31 +17,31 @@ use Rattle.promises.proofs.Verdicts.{accepts-or, verdict-pass, verdict-skip, ro
 use Rattle.frames.specs.declared.Progress.{Progress}
 use Rattle.frames.specs.declared.Taken.the-variants as T
 use Rattle.frames.specs.Frames.{Frame, state, node, run, edit, walk, nothing, frameOf}
-use Rattle.frames.specs.Lines.{lineEnds, lineIn, kept, Keeps, Gathers}
+use Rattle.frames.specs.Lines.{lineEnds, lineIn, frontSize, Keeps, Gathers}
 use Rattle.frames.specs.Machine.{Memory, memory, outputSize, tooSmall, miscounted, memoryRules, Prints, Before, After, Answers, Stepped}
 use Rattle.frames.specs.Program.{Fresh}
-use Rattle.frames.specs.Blocks.{inputRules, Point, point, outputAfter, withOutput, GoesOn, Walks, stops, begins, answers, Refuses, BlockTaken, InputEnded}
+use Rattle.frames.specs.Blocks.{inputRules, Point, point, outputAfter, withOutput, GoesOn, Passes, stops, begins, answers, Refuses, BlockTaken, InputEnded}
 use Rattle.frames.proofs.Fronts.{keeps-long, keeps-same}
 use Rattle.frames.proofs.Takes.{Counted, Passed, rules-passed, passed-rules, answers-counted, taken-line}
 
 -- ---- the rules of the lent memory
 
 module _ (m : Memory) (front : List ℕ) where
-  pub input-passed : verdict (inputRules m front) ≡ 0 → Passed m × (kept ≤ length front)
+  pub input-passed : verdict (inputRules m front) ≡ 0 → Passed m × (frontSize ≤ length front)
   input-passed ok =
-      let first = verdict-pass 3 (tooSmall m || ltb (length front) kept) (rule 10 (miscounted m) ∷ []) (omega arith) ok in (
+      let first = verdict-pass 3 (tooSmall m || ltb (length front) frontSize) (rule 10 (miscounted m) ∷ []) (omega arith) ok in (
         rules-passed m
-            (verdict-skip 3 (tooSmall m) (rule 10 (miscounted m) ∷ []) (or-false-l (tooSmall m) (ltb (length front) kept) (first .0)) ∙ first .1),
-        ltb-false (length front) kept (or-false-r (tooSmall m) (ltb (length front) kept) (first .0)),
+            (verdict-skip 3 (tooSmall m) (rule 10 (miscounted m) ∷ []) (or-false-l (tooSmall m) (ltb (length front) frontSize) (first .0)) ∙ first .1),
+        ltb-false (length front) frontSize (or-false-r (tooSmall m) (ltb (length front) frontSize) (first .0)),
       )
 
-  pub passed-input : Passed m → kept ≤ length front → verdict (inputRules m front) ≡ 0
+  pub passed-input : Passed m → frontSize ≤ length front → verdict (inputRules m front) ≡ 0
   passed-input p long =
       let own = verdict-pass 3 (tooSmall m) (rule 10 (miscounted m) ∷ []) (omega arith) (passed-rules m p) in
-      verdict-skip 3 (tooSmall m || ltb (length front) kept) (rule 10 (miscounted m) ∷ []) (rw (own .0) (le-ltb (length front) kept long)) ∙ own .1
+      verdict-skip 3 (tooSmall m || ltb (length front) frontSize) (rule 10 (miscounted m) ∷ []) (rw (own .0) (le-ltb (length front) frontSize long)) ∙ own .1
 
 -- memory at its start breaks none, with a room, an output and a front that are long enough
-pub fresh-passed : (m : Memory) (front : List ℕ) → Fresh m → maxChanges ≤ length (m .room) → outputSize ≤ length (m .out) → kept ≤ length front
+pub fresh-passed : (m : Memory) (front : List ℕ) → Fresh m → maxChanges ≤ length (m .room) → outputSize ≤ length (m .out) → frontSize ≤ length front
     → verdict (inputRules m front) ≡ 0
 fresh-passed m front f room out long =
     passed-input m front
@@ -131,34 +131,34 @@ still-passed m m' p s c = record {
 
 -- from the start to the present point: what a walk from here comes to, a walk from the start comes to
 pub record Upto (block : List ℕ) (start p : Point) : Type 0 where
-  pub goes : (q : Point) → Walks block p q → Walks block start q
+  pub goes : (q : Point) → Passes block p q → Passes block start q
   pub passed : Passed (p .memory)
-  pub front : kept ≤ length (p .front)
+  pub front : frontSize ≤ length (p .front)
   pub inside : p .written ≤ length (p .memory .out)
 
 module _ (block : List ℕ) where
-  pub walk-start : (front : List ℕ) (begun : ℕ) (m : Memory) → verdict (inputRules m front) ≡ 0
+  pub pass-start : (front : List ℕ) (begun : ℕ) (m : Memory) → verdict (inputRules m front) ≡ 0
       → Upto block (point front begun 0 0 m) (point front begun 0 0 m)
-  walk-start front begun m ok =
+  pass-start front begun m ok =
       let i = input-passed m front ok in
       record { goes = λ q w. w; passed = i .0; front = i .1; inside = omega arith }
 
   module _ (start p : Point) (s : Upto block start p) (on : GoesOn block p) (front' : List ℕ) (begun' at' : ℕ) where
-    front-stays : (e : Bool) → Gathers (p .front) (p .begun) block (p .at) front' begun' at' e → kept ≤ length front'
+    front-stays : (e : Bool) → Gathers (p .front) (p .begun) block (p .at) front' begun' at' e → frontSize ≤ length front'
     front-stays e g = let k = keeps-long (p .front) (p .begun) _ front' begun' (g .front) in omega (arith, k, s .front)
 
-    walk-begins : Gathers (p .front) (p .begun) block (p .at) front' begun' at' false
+    pass-begins : Gathers (p .front) (p .begun) block (p .at) front' begun' at' false
         → Upto block start (point front' begun' at' (p .written) (p .memory))
-    walk-begins g = record {
+    pass-begins g = record {
       goes = λ q w. s .goes q (begins front' begun' at' on g w);
       passed = s .passed;
       front = front-stays false g;
       inside = s .inside;
     }
 
-    pub walk-open : (e : Bool) → e ≡ false → Gathers (p .front) (p .begun) block (p .at) front' begun' at' e
+    pub pass-open : (e : Bool) → e ≡ false → Gathers (p .front) (p .begun) block (p .at) front' begun' at' e
         → Upto block start (point front' begun' at' (p .written) (p .memory))
-    walk-open e z g = walk-begins (subst (λ (b : Bool). Gathers (p .front) (p .begun) block (p .at) front' begun' at' b) z g)
+    pass-open e z g = pass-begins (subst (λ (b : Bool). Gathers (p .front) (p .begun) block (p .at) front' begun' at' b) z g)
 
     -- the memory that a line is answered in
     lent-passed : Passed (outputAfter (p .written) (p .memory))
@@ -190,9 +190,9 @@ module _ (block : List ℕ) where
           let f = answers-fit (outputAfter (p .written) (p .memory)) (take begun' front') n left (lent-passed .counted) a in
           omega (arith, f, same .out, s .inside, length-drop (p .written) (p .memory .out))
 
-      walk-answers : Gathers (p .front) (p .begun) block (p .at) front' begun' at' true
+      pass-answers : Gathers (p .front) (p .begun) block (p .at) front' begun' at' true
           → Upto block start (point front' 0 at' (p .written + n) (withOutput (take (p .written) (p .memory .out)) left))
-      walk-answers g =
+      pass-answers g =
           let mine = outputAfter (p .written) (p .memory) in
           let c = answers-counted mine left n (lent-passed .ready) (lent-passed .counted) (take begun' front') a in
           record {
@@ -245,10 +245,10 @@ module _ (block : List ℕ) where
             s .inside,
           )
 
-      pub walk-line : (e : Bool) → e ≡ true → Gathers (p .front) (p .begun) block (p .at) front' begun' at' e
+      pub pass-line : (e : Bool) → e ≡ true → Gathers (p .front) (p .begun) block (p .at) front' begun' at' e
           → Upto block start (point front' 0 at' (p .written + n) (memory (left .counts) (left .words) (left .session) (left .room)
           (take (p .written) (p .memory .out) ++ (left .out ++ drop (length (p .memory .out) - p .written) (drop (p .written) (p .memory .out))))))
-      walk-line e z g =
+      pass-line e z g =
           let none : left .out ++ drop (length (p .memory .out) - p .written) (drop (p .written) (p .memory .out)) ≡ left .out =
           ap (λ (w : List ℕ). left .out ++ w)
           (drop-of-length-le (drop (p .written) (p .memory .out)) {i = length (p .memory .out) - p .written} (omega (arith, length-drop (p .written) (p .memory .out))))
@@ -256,11 +256,11 @@ module _ (block : List ℕ) where
           subst
           (λ (w : List ℕ). Upto block start (point front' 0 at' (p .written + n) (memory (left .counts) (left .words) (left .session) (left .room) (take (p .written) (p .memory .out) ++ w))))
           (sym none)
-          (walk-answers n left a' same' (subst (λ (b : Bool). Gathers (p .front) (p .begun) block (p .at) front' begun' at' b) z g))
+          (pass-answers n left a' same' (subst (λ (b : Bool). Gathers (p .front) (p .begun) block (p .at) front' begun' at' b) z g))
 
-  pub walk-stops : (start p : Point) → Upto block start p → (length block ≤ p .at) ⊎ (length (p .memory .out) < p .written + outputSize)
-      → Walks block start p
-  walk-stops start p s h = s .goes p (stops h)
+  pub pass-stops : (start p : Point) → Upto block start p → (length block ≤ p .at) ⊎ (length (p .memory .out) < p .written + outputSize)
+      → Passes block start p
+  pass-stops start p s h = s .goes p (stops h)
 
 -- ---- where the walk comes to
 
@@ -282,62 +282,62 @@ module _ (block : List ℕ) where
       (omega (arith, g .place), omega (arith, g .place, short, length-drop at block))
   gathered-at front begun at front' begun' at' false l g = (omega (arith, g .place), omega (arith, g .place))
 
-  pub walk-at : {p q : Point} → Walks block p q → p .at ≤ length block → (p .at ≤ q .at) × (q .at ≤ length block)
-  walk-at (stops h) l = (omega arith, l)
-  walk-at {p} (begins front' begun' at' on g w) l =
+  pub pass-at : {p q : Point} → Passes block p q → p .at ≤ length block → (p .at ≤ q .at) × (q .at ≤ length block)
+  pass-at (stops h) l = (omega arith, l)
+  pass-at {p} (begins front' begun' at' on g w) l =
       let here = gathered-at (p .front) (p .begun) (p .at) front' begun' at' false (on .0) g in
-      let rest = walk-at w (here .1) in
+      let rest = pass-at w (here .1) in
       (omega (arith, here .0, rest .0), rest .1)
-  walk-at {p} (answers front' begun' at' n left on g s w) l =
+  pass-at {p} (answers front' begun' at' n left on g s w) l =
       let here = gathered-at (p .front) (p .begun) (p .at) front' begun' at' true (on .0) g in
-      let rest = walk-at w (here .1) in
+      let rest = pass-at w (here .1) in
       (omega (arith, here .0, rest .0), rest .1)
 
   -- a walk that goes on takes a byte at least
-  walk-goes : {p q : Point} → Walks block p q → GoesOn block p → p .at < q .at
-  walk-goes (stops h) on = ⊎-elim (λ l. omega (arith, l, on .0)) (λ l. absurd (omega (arith, l, on .1))) h
-  walk-goes {p} (begins front' begun' at' on g w) h =
+  pass-goes : {p q : Point} → Passes block p q → GoesOn block p → p .at < q .at
+  pass-goes (stops h) on = ⊎-elim (λ l. omega (arith, l, on .0)) (λ l. absurd (omega (arith, l, on .1))) h
+  pass-goes {p} (begins front' begun' at' on g w) h =
       let here = gathered-at (p .front) (p .begun) (p .at) front' begun' at' false (on .0) g in
-      omega (arith, here .0, walk-at w (here .1) .0)
-  walk-goes {p} (answers front' begun' at' n left on g s w) h =
+      omega (arith, here .0, pass-at w (here .1) .0)
+  pass-goes {p} (answers front' begun' at' n left on g s w) h =
       let here = gathered-at (p .front) (p .begun) (p .at) front' begun' at' true (on .0) g in
-      omega (arith, here .0, walk-at w (here .1) .0)
+      omega (arith, here .0, pass-at w (here .1) .0)
 
   -- the bytes given are in the output
-  walk-written : {p q : Point} → Walks block p q → p .written ≤ length (p .memory .out) → q .written ≤ length (q .memory .out)
-  walk-written (stops h) l = l
-  walk-written (begins front' begun' at' on g w) l = walk-written w l
-  walk-written {p} (answers front' begun' at' n left on g s w) l =
+  pass-written : {p q : Point} → Passes block p q → p .written ≤ length (p .memory .out) → q .written ≤ length (q .memory .out)
+  pass-written (stops h) l = l
+  pass-written (begins front' begun' at' on g w) l = pass-written w l
+  pass-written {p} (answers front' begun' at' n left on g s w) l =
       let mine = outputAfter (p .written) (p .memory) in
       let fit = answers-fit mine (take begun' front') n left (rules-passed mine (unrefused mine (take begun' front') n left s) .counted)
       (stepped-answers mine (take begun' front') n left s) in
-      walk-written w (omega (arith, fit, l, length-append (take (p .written) (p .memory .out)) (left .out), length-take (p .written) (p .memory .out)))
+      pass-written w (omega (arith, fit, l, length-append (take (p .written) (p .memory .out)) (left .out), length-take (p .written) (p .memory .out)))
 
-  walk-counted : {p q : Point} → Walks block p q → Counted (p .memory .counts) → Counted (q .memory .counts)
-  walk-counted (stops h) c = c
-  walk-counted (begins front' begun' at' on g w) c = walk-counted w c
-  walk-counted {p} (answers front' begun' at' n left on g s w) c =
+  pass-counted : {p q : Point} → Passes block p q → Counted (p .memory .counts) → Counted (q .memory .counts)
+  pass-counted (stops h) c = c
+  pass-counted (begins front' begun' at' on g w) c = pass-counted w c
+  pass-counted {p} (answers front' begun' at' n left on g s w) c =
       let mine = outputAfter (p .written) (p .memory) in
       let h = rules-passed mine (unrefused mine (take begun' front') n left s) in
-      walk-counted w (answers-counted mine left n (h .ready) (h .counted) (take begun' front') (stepped-answers mine (take begun' front') n left s))
+      pass-counted w (answers-counted mine left n (h .ready) (h .counted) (take begun' front') (stepped-answers mine (take begun' front') n left s))
 
 -- what the caller of a block learns where the memory breaks no rule
 module _ (m : Memory) (front : List ℕ) (begun : ℕ) (block : List ℕ) (r : Progress) (m' : Memory) (front' : List ℕ)
     (t : BlockTaken m front begun block r m' front') (ok : verdict (inputRules m front) ≡ 0) where
   pub block-at : r .at ≤ length block
-  block-at = walk-at block (t .walks ok .1) (omega arith) .1
+  block-at = pass-at block (t .passes ok .1) (omega arith) .1
 
   pub block-goes : 0 < length block → 0 < r .at
-  block-goes l = walk-goes block (t .walks ok .1) (l, input-passed m front ok .0 .out)
+  block-goes l = pass-goes block (t .passes ok .1) (l, input-passed m front ok .0 .out)
 
   pub block-written : r .written ≤ length (m' .out)
-  block-written = walk-written block (t .walks ok .1) (omega arith)
+  block-written = pass-written block (t .passes ok .1) (omega arith)
 
   -- and it breaks none after the call
   pub block-passed : SameLengths m m' → length front' ≡ length front → verdict (inputRules m' front') ≡ 0
   block-passed same long =
       let i = input-passed m front ok in
-      passed-input m' front' (still-passed m m' (i .0) same (walk-counted block (t .walks ok .1) (i .0 .counted))) (omega (arith, long, i .1))
+      passed-input m' front' (still-passed m m' (i .0) same (pass-counted block (t .passes ok .1) (i .0 .counted))) (omega (arith, long, i .1))
 
 -- and of the end
 pub end-written : (m : Memory) (front : List ℕ) (begun : ℕ) (r : Progress) (m' : Memory) → InputEnded m front begun r m'
@@ -353,17 +353,17 @@ end-written m front begun r m' t ok =
 
 module _ (m : Memory) (front : List ℕ) where
   abbrev short : Bool
-  short = tooSmall m || ltb (length front) kept
+  short = tooSmall m || ltb (length front) frontSize
 
   -- a = whether the machine's memory is too short
   module _ (a : Bool) (a-is : a ≡ tooSmall m) where
     pub rule-short : a ≡ true → 3 ≡ verdict (inputRules m front)
     rule-short h = row-broken 3 short true (rule 10 (miscounted m) ∷ []) (rw (← a-is, h)) refl
 
-    pub rule-front : a ≡ false → ltb (length front) kept ≡ true → 3 ≡ verdict (inputRules m front)
+    pub rule-front : a ≡ false → ltb (length front) frontSize ≡ true → 3 ≡ verdict (inputRules m front)
     rule-front h f = row-broken 3 short true (rule 10 (miscounted m) ∷ []) (rw (← a-is, h, f)) refl
 
-    module _ (long : a ≡ false) (wide : ltb (length front) kept ≡ false) (b : Bool) (b-is : b ≡ miscounted m) where
+    module _ (long : a ≡ false) (wide : ltb (length front) frontSize ≡ false) (b : Bool) (b-is : b ≡ miscounted m) where
       pub rule-counts : b ≡ true → 10 ≡ verdict (inputRules m front)
       rule-counts h =
           row-passed 3 short false (rule 10 (miscounted m) ∷ []) (rw (← a-is, long, wide)) 10 refl (row-broken 10 (miscounted m) b [] b-is h)
@@ -381,7 +381,7 @@ module _ (m : Memory) (front : List ℕ) where
       told-verdict = (told .0 ∙ k-is, told .1, told .2, told .3)
 
       pub block-refused : (block : List ℕ) → BlockTaken m front begun block r m front
-      block-refused block = record { refuses = λ bad. (told-verdict, refl, refl); walks = λ ok. absurd (some (k-is ∙ ok)) }
+      block-refused block = record { refuses = λ bad. (told-verdict, refl, refl); passes = λ ok. absurd (some (k-is ∙ ok)) }
 
       pub end-refused : InputEnded m front begun r m
       end-refused = record {
@@ -392,10 +392,10 @@ module _ (m : Memory) (front : List ℕ) where
       }
 
     module _ (fine : k ≡ 0) where
-      pub block-walked : (block : List ℕ) (m' : Memory) (front' : List ℕ)
-          → (r .rule ≡ 0) × Walks block (point front begun 0 0 m) (point front' (r .begun) (r .at) (r .written) m')
+      pub block-passed-over : (block : List ℕ) (m' : Memory) (front' : List ℕ)
+          → (r .rule ≡ 0) × Passes block (point front begun 0 0 m) (point front' (r .begun) (r .at) (r .written) m')
           → BlockTaken m front begun block r m' front'
-      block-walked block m' front' w = record { refuses = λ bad. absurd (bad (unbroken-input k k-is fine)); walks = λ ok. w }
+      block-passed-over block m' front' w = record { refuses = λ bad. absurd (bad (unbroken-input k k-is fine)); passes = λ ok. w }
 
       pub end-none : begun ≡ 0 → Refuses 0 0 r → InputEnded m front begun r m
       end-none z told = record {

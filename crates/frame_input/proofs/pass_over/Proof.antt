@@ -11,9 +11,9 @@ use borrow.Author.Tests.{leb-true, leb-false}
 use Rattle.frames.specs.Machine.{Memory, memory}
 use Rattle.frames.specs.Blocks.{Point, point, GoesOn}
 use Rattle.frames.proofs.Fronts.{keeps-inside}
-use Rattle.frames.proofs.Walking.{SameLengths, Upto, walk-start, walk-open, part, part-passed, part-fits, part-long, walk-line, walk-stops, gathered-at}
-use Rattle.frame_input.proofs.walk_block.Statement.{statement}
-use Rattle.frame_input.proofs.walk_block.Tie as tie
+use Rattle.frames.proofs.Passing.{SameLengths, Upto, pass-start, pass-open, part, part-passed, part-fits, part-long, pass-line, pass-stops, gathered-at}
+use Rattle.frame_input.proofs.pass_over.Statement.{statement}
+use Rattle.frame_input.proofs.pass_over.Tie as tie
 
 abbrev Inv-loop : tie.InvT-loop
 Inv-loop counts₀ words₀ session₀ changes₀ front₀ begun block out₀ at₀ line₀ written₀ counts words session changes front out at line written =
@@ -68,7 +68,7 @@ same e =
     record { counts = k .0; words = k .1 .0; session = k .1 .1 .0; room = k .1 .1 .1 .0; out = k .1 .1 .1 .1 .1 .0 }
 
 loop-holds : tie.Need-loop-holds Inv-loop μ-loop
-loop-holds c = let s = c .before .before .before .before .before .before in (walk-start (s .args .block .now) (s .args .front .now) (s .args .begun) _ (s .pre), refl, refl, refl, refl, refl, refl)
+loop-holds c = let s = c .before .before .before .before .before .before in (pass-start (s .args .block .now) (s .args .front .now) (s .args .begun) _ (s .pre), refl, refl, refl, refl, refl, refl)
 
 sub-if1 : tie.Need-sub-if1 Inv-loop μ-loop
 sub-if1 c = upto (c .before) .inside
@@ -115,7 +115,7 @@ loop-again c =
     let h = a .before .before .before .before in
     let i = h .loop .inv in
     let k = e .answer-line .kept in (
-      walk-line (block h) (begin h) (here h) (upto h) (on a) (a .gather .last .0) (a .gather .result .used) (a .gather .result .at)
+      pass-line (block h) (begin h) (here h) (upto h) (on a) (a .gather .last .0) (a .gather .result .used) (a .gather .result .at)
           (e .answer-line .result) (left e) (e .answer-line .ensures) (same e) (a .gather .result .ended) (e .before .before .before .before .before .before .before .if2 .taken) (a .gather .ensures),
       k .0 ∙ i .1,
       k .1 .0 ∙ i .2,
@@ -135,7 +135,7 @@ loop-again-2 c =
     let a = c .before .before .before in
     let h = a .before .before .before .before in
     let i = h .loop .inv in
-    (walk-open (block h) (begin h) (here h) (upto h) (on a) (a .gather .last .0) (a .gather .result .used) (a .gather .result .at) (a .gather .result .ended) (c .if2 .left) (a .gather .ensures), i .1, i .2, i .3, i .4, a .gather .kept .0 ∙ i .5, i .6)
+    (pass-open (block h) (begin h) (here h) (upto h) (on a) (a .gather .last .0) (a .gather .result .used) (a .gather .result .at) (a .gather .result .ended) (c .if2 .left) (a .gather .ensures), i .1, i .2, i .3, i .4, a .gather .kept .0 ∙ i .5, i .6)
 
 same-length : tie.Need-same-length Inv-loop μ-loop
 same-length c = search needs
@@ -160,7 +160,7 @@ returns c =
     let h = c .before .before in
     let l = h .loop in
     let full : length (l .out) - l .written < 90125 = leb-false 90125 (length (l .out) - l .written) (c .if1 .left) in
-    (refl, walk-stops (block h) (begin h) (here h) (upto h) (inr (omega (arith, full, upto h .inside))))
+    (refl, pass-stops (block h) (begin h) (here h) (upto h) (inr (omega (arith, full, upto h .inside))))
 
 same-length-7 : tie.Need-same-length-7 Inv-loop μ-loop
 same-length-7 c = search needs
@@ -183,10 +183,10 @@ same-length-12 c = search needs
 returns-2 : tie.Need-returns-2 Inv-loop μ-loop
 returns-2 c =
     let h = c .before in
-    (refl, walk-stops (block h) (begin h) (here h) (upto h) (inl (c .loop-test .left)))
+    (refl, pass-stops (block h) (begin h) (here h) (upto h) (inl (c .loop-test .left)))
 
-pub walk-block-spec : {M : Type 1} → statement M
-walk-block-spec =
+pub pass-over-spec : {M : Type 1} → statement M
+pass-over-spec =
     tie.close
     (tie.spec
     Inv-loop
