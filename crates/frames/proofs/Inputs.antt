@@ -1,13 +1,13 @@
 -- The input in blocks: however it is cut, and whatever is lent to each call, the outputs are those of its lines.
-use Prim.Native.Nat.{ℕ, suc, _+_, _<_, _≤_}
+use Prim.Native.Nat.{ℕ, suc, _+_, _-_, _<_, _≤_}
 use native.Mathlib.Omega.{arith}
 use mathlib.Core.Path.{_≡_, refl, sym, _∙_, ap, ap₂, subst}
 use mathlib.Core.Logic.{inl, ⊎-elim}
 use mathlib.Core.Bool.{Bool, true, false}
 use mathlib.Core.List.{List, [], _∷_, _++_, map, append-nil, append-assoc}
 use lib.IntN.{ℤ}
-use lib.ListN.{length, take, drop, length-take}
-use lib.Seq.{length-take-le, take-append-add, drop-drop, drop-length}
+use lib.ListN.{length, take, drop, length-take, length-drop, drop-of-length-le}
+use lib.Seq.{take-all, length-take-le, take-append-add, drop-drop, drop-length}
 use Rattle.session.specs.Limits.{maxChanges}
 use Rattle.promises.specs.Rules.{verdict}
 use Rattle.promises.proofs.Verdicts.{accepts-or}
@@ -20,7 +20,7 @@ use Rattle.frames.specs.Machine.{Memory, outputSize, Stepped}
 use Rattle.frames.specs.Moments.{start, program}
 use Rattle.frames.specs.Moments as moments
 use Rattle.frames.specs.Program.{Line, lent, LineByLine, ended, taken, printedBy, bytesOf, Fresh}
-use Rattle.frames.specs.Blocks.{inputRules, Point, point, outputAfter, withOutput, GoesOn, Passes, stops, begins, answers, BlockTaken, InputEnded, InputCalls, block, again, end, InputAnswered}
+use Rattle.frames.specs.Blocks.{inputRules, Point, point, outputAfter, withOutput, GoesOn, Passes, stops, begins, answers, BlockTaken, InputEnded, InputCalls, block, again, end, Leads, InputAnswered}
 use Rattle.frames.proofs.Fronts.{Like, like-frame, like-more, keeps-front, keeps-long, line-open, lines-open, lines-ended}
 use Rattle.frames.proofs.Takes.{rules-passed, passed-rules}
 use Rattle.frames.proofs.Passing.{input-passed, unrefused}
@@ -248,3 +248,52 @@ pub prints-program : (m : Memory) (input output : List ℕ) → Fresh m → Inpu
 prints-program m input output fresh calls =
     let a = input-answered m input output fresh calls in
     sym (a .prints) ∙ a .whole .prints ∙ ap (moments.output start) (a .frames)
+
+-- ---- a caller's sequence, call by call
+
+pub leads-none : (m : Memory) (begun : List ℕ) → Leads m begun [] [] m begun
+leads-none m begun more rest c = c
+
+pub leads-then : (m : Memory) (begun a o : List ℕ) (m' : Memory) (begun' b p : List ℕ) (m'' : Memory) (begun'' : List ℕ) → Leads m begun a o m' begun'
+    → Leads m' begun' b p m'' begun'' → Leads m begun (a ++ b) (o ++ p) m'' begun''
+leads-then m begun a o m' begun' b p m'' begun'' l k more rest c =
+    rw (append-assoc a b more, append-assoc o p rest) (l (b ++ more) (p ++ rest) (k more rest c))
+
+-- in a block, of which the bytes before the place `at` are taken
+abbrev pub Within : Memory → List ℕ → List ℕ → Memory → List ℕ → ℕ → Type 0
+Within m begun bytes m' begun' at =
+    (out : List ℕ) × ((more rest : List ℕ) → InputCalls m' begun' (drop at bytes ++ more) rest → InputCalls m begun (bytes ++ more) (out ++ rest))
+
+pub within-start : (m : Memory) (begun bytes : List ℕ) → Within m begun bytes m begun 0
+within-start m begun bytes = ([], λ more rest c. c)
+
+pub within-step : (m : Memory) (begun bytes : List ℕ) (m₁ : Memory) (front : List ℕ) (used at : ℕ) (r : Progress) (m₂ : Memory) (front' : List ℕ)
+    → Within m begun bytes m₁ (take used front) at → BlockTaken m₁ front used (take (length bytes - at) (drop at bytes)) r m₂ front'
+    → Within m begun bytes m₂ (take (r .begun) front') (at + r .at)
+within-step m begun bytes m₁ front used at r m₂ front' w t =
+    let part : take (length bytes - at) (drop at bytes) ≡ drop at bytes =
+    take-all (length bytes - at) (drop at bytes) (omega (arith, length-drop at bytes)) in
+    let t' : BlockTaken m₁ front used (drop at bytes) r m₂ front' =
+    subst (λ (b : List ℕ). BlockTaken m₁ front used b r m₂ front') part t in (
+      w .0 ++ take (r .written) (m₂ .out),
+      λ more rest c.
+          rw (append-assoc (w .0) (take (r .written) (m₂ .out)) rest)
+          (w .1 more (take (r .written) (m₂ .out) ++ rest)
+          (block (m₁ .room) (m₁ .out) front used (drop at bytes) more r m₂ front' refl refl t'
+          (subst (λ (b : List ℕ). InputCalls m₂ (take (r .begun) front') (b ++ more) rest) (sym (drop-drop (r .at) at bytes)) c))),
+    )
+
+pub within-end : (m : Memory) (begun bytes : List ℕ) (m' : Memory) (begun' : List ℕ) (at : ℕ) → length bytes ≤ at → Within m begun bytes m' begun' at
+    → (out : List ℕ) × Leads m begun bytes out m' begun'
+within-end m begun bytes m' begun' at l w = (
+  w .0,
+  λ more rest c.
+      w .1 more rest (subst (λ (b : List ℕ). InputCalls m' begun' (b ++ more) rest) (sym (drop-of-length-le bytes l)) c),
+)
+
+-- the end ends it
+pub leads-end : (m : Memory) (begun bytes out : List ℕ) (m' : Memory) (front : List ℕ) (used : ℕ) (r : Progress) (m'' : Memory)
+    → Leads m begun bytes out m' (take used front) → InputEnded m' front used r m'' → r .rule ≡ 0
+    → InputCalls m begun bytes (out ++ take (r .written) (m'' .out))
+leads-end m begun bytes out m' front used r m'' l t told =
+    rw (append-nil bytes) at (l [] (take (r .written) (m'' .out)) (end (m' .room) (m' .out) front used r m'' refl t told))

@@ -93,6 +93,11 @@ pub data InputCalls : Memory → List ℕ → List ℕ → List ℕ → Type 0 w
       → InputEnded (lent m room out) front used r m' → r .rule ≡ 0
       → InputCalls m begun [] (take (r .written) (m' .out))
 
+-- Calls were made that took these bytes and gave this output: any sequence that goes on from there is one from their start.
+abbrev pub Leads : Memory → List ℕ → List ℕ → List ℕ → Memory → List ℕ → Type 0
+Leads m begun bytes output m' begun' =
+    (more rest : List ℕ) → InputCalls m' begun' more rest → InputCalls m begun (bytes ++ more) (output ++ rest)
+
 -- What such a sequence comes to from fresh memory, over a whole input: lines taken by the machine one after the other, which are those of the
 -- input as far as frames go, print the output, and have the demands.
 pub record InputAnswered (m : Memory) (input output : List ℕ) : Type 1 where

@@ -1,4 +1,4 @@
--- Each turn takes a byte of the block at least, and leaves memory that breaks no rule.
+-- Each turn takes a byte of the block at least, leaves memory that breaks no rule, and is one call more of a sequence over the block.
 use borrow.Author.Needs.{needs}
 use native.Mathlib.Omega.{arith}
 use Prim.Native.Nat.{ℕ, _+_, _-_, _<_, _≤_}
@@ -6,21 +6,24 @@ use mathlib.Core.Path.{_≡_, refl, sym, _∙_}
 use mathlib.Core.List.{List}
 use lib.ListN.{length, take, drop, length-take, length-drop}
 use lib.Seq.{length-take-le}
+use Rattle.simulation.proofs.Sets.{clash}
 use Rattle.promises.specs.Rules.{verdict}
 use Rattle.frames.specs.Machine.{Memory, memory}
 use Rattle.frames.specs.Blocks.{inputRules, BlockTaken}
+use Rattle.frames.proofs.Inputs.{Within, within-start, within-step, within-end}
 use Rattle.frames.proofs.Passing.{block-at, block-goes, block-written, block-passed}
 use Rattle.trigger.proofs.answer_whole.Statement.{statement}
 use Rattle.trigger.proofs.answer_whole.Tie as tie
 
 abbrev Inv-loop : tie.InvT-loop
-Inv-loop counts₀ words₀ session₀ changes₀ front₀ begun block out₀ at₀ line₀ open₀ counts words session changes front out at line «open» =
+Inv-loop counts₀ words₀ session₀ changes₀ front₀ begun block out₀ at₀ line₀ written₀ counts words session changes front out at line written =
     (verdict (inputRules (memory counts words session changes out) front) ≡ 0) × (length counts ≡ length counts₀) × (length words ≡ length words₀)
     × (length session ≡ length session₀) × (length changes ≡ length changes₀) × (length front ≡ length front₀) × (length out ≡ length out₀)
     × (at ≤ length block)
+    × Within (memory counts₀ words₀ session₀ changes₀ out₀) (take begun front₀) block (memory counts words session changes out) (take line front) at
 
 abbrev μ-loop : tie.MeasureT-loop
-μ-loop counts₀ words₀ session₀ changes₀ front₀ begun block out₀ at₀ line₀ open₀ counts words session changes front out at line «open» =
+μ-loop counts₀ words₀ session₀ changes₀ front₀ begun block out₀ at₀ line₀ written₀ counts words session changes front out at line written =
     length block - at
 
 -- the memory before and after the call, and what is left of the block
@@ -56,7 +59,19 @@ goes e =
     (omega (arith, some), omega (arith, most, l, h .loop .inv .7))
 
 loop-holds : tie.Need-loop-holds Inv-loop μ-loop
-loop-holds c = (c .before .before .before .before .before .before .pre, refl, refl, refl, refl, refl, refl, omega arith)
+loop-holds c =
+    let s = c .before .before .before .before .before .before in
+    let a = s .args in (
+      s .pre,
+      refl,
+      refl,
+      refl,
+      refl,
+      refl,
+      refl,
+      omega arith,
+      within-start (memory (a .counts .now) (a .words .now) (a .session .now) (a .changes .now) (a .out .now)) (take (a .begun) (a .front .now)) (a .block .now),
+    )
 
 sub-answer-block : tie.Need-sub-answer-block Inv-loop μ-loop
 sub-answer-block c = search needs
@@ -100,6 +115,7 @@ loop-again c =
       k .1 .1 .1 .1 .0 ∙ i .5,
       k .1 .1 .1 .1 .1 .1 .1 .0 ∙ i .6,
       goes e .1,
+      within-step _ _ _ _ _ _ _ _ _ _ (i .8) (taken e),
     )
 
 same-length : tie.Need-same-length Inv-loop μ-loop
@@ -121,7 +137,7 @@ same-length-6 : tie.Need-same-length-6 Inv-loop μ-loop
 same-length-6 c = search needs
 
 returns : tie.Need-returns Inv-loop μ-loop
-returns c = c .before .before .loop .inv .0
+returns c = (c .before .before .loop .inv .0, λ all. clash all (c .if1 .left))
 
 same-length-7 : tie.Need-same-length-7 Inv-loop μ-loop
 same-length-7 c = search needs
@@ -142,7 +158,7 @@ same-length-12 : tie.Need-same-length-12 Inv-loop μ-loop
 same-length-12 c = search needs
 
 returns-2 : tie.Need-returns-2 Inv-loop μ-loop
-returns-2 c = c .before .loop .inv .0
+returns-2 c = let i = c .before .loop .inv in (i .0, λ all. within-end _ _ _ _ _ _ (c .loop-test .left) (i .8))
 
 pub answer-whole-spec : {M : Type 1} → statement M
 answer-whole-spec =
