@@ -5,15 +5,14 @@ ghost use Rattle.frames.specs.Machine.{memory};
 ghost use Rattle.frames.specs.Blocks as b;
 use frame_machine::OUTPUT_SIZE;
 use frame_machine::answer_line;
-use frame_machine::miscounted;
-use frame_machine::too_small;
+use frame_machine::memory_rule;
 use frames::Progress;
 use line_gathering::KEPT;
 use line_gathering::gather;
 use line_gathering::within;
 
 // The first rule that the lent memory breaks, or 0.
-fn memory_rule(
+fn input_rule(
     counts: &[u32],
     words: &[u16],
     session: &[u32],
@@ -23,20 +22,10 @@ fn memory_rule(
 ) -> u8
     ensures { λ r. ⌜ r ≡ verdict (b.inputRules (memory (now (counts .entry)) (now (words .entry)) (now (session .entry)) (now (changes .entry)) (now (out .entry))) (now (front .entry))) ⌝ }
 {
-    let short = too_small(
-        counts.len(),
-        words.len(),
-        session.len(),
-        changes.len(),
-        out.len(),
-    );
-    if short || front.len() < KEPT {
+    if front.len() < KEPT {
         return 3;
     }
-    if miscounted(counts[0], counts[1], counts[2]) {
-        return 10;
-    }
-    0
+    memory_rule(counts, words, session, changes, out)
 }
 
 // Passes over the block, in memory that breaks none of its own rules. The walk ends with the block, or where the output has no room for one
@@ -96,7 +85,7 @@ pub fn answer_block(
 ) -> Progress
     ensures { λ r. ⌜ b.BlockTaken (memory (now (counts .entry)) (now (words .entry)) (now (session .entry)) (now (changes .entry)) (now (out .entry))) (now (front .entry)) begun (now (block .entry)) r (memory (now (counts .exit)) (now (words .exit)) (now (session .exit)) (now (changes .exit)) (now (out .exit))) (now (front .exit)) ⌝ }
 {
-    let rule = memory_rule(counts, words, session, changes, front, out);
+    let rule = input_rule(counts, words, session, changes, front, out);
     if rule != 0 {
         return Progress {
             rule,
@@ -120,7 +109,7 @@ pub fn answer_end(
 ) -> Progress
     ensures { λ r. ⌜ b.InputEnded (memory (now (counts .entry)) (now (words .entry)) (now (session .entry)) (now (changes .entry)) (now (out .entry))) (now (front .entry)) begun r (memory (now (counts .exit)) (now (words .exit)) (now (session .exit)) (now (changes .exit)) (now (out .exit))) ⌝ }
 {
-    let rule = memory_rule(counts, words, session, changes, front, out);
+    let rule = input_rule(counts, words, session, changes, front, out);
     if rule != 0 {
         return Progress {
             rule,

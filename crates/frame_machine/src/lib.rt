@@ -25,11 +25,36 @@ pub fn too_small(counts: usize, words: usize, session: usize, room: usize, out: 
         || (session < session::FIXED_SIZE || (room < session::MAX_CHANGES || out < OUTPUT_SIZE))
 }
 
-// Whether the counts are none.
+// Whether the counts are out of range.
 pub fn miscounted(moment: u32, states: u32, nodes: u32) -> bool
     ensures { λ r. ⌜ r ≡ (ltb 1 moment || (ltb maxStates states || ltb maxNodes nodes)) ⌝ }
 {
     1 < moment || ((session::MAX_STATES as u32) < states || (session::MAX_NODES as u32) < nodes)
+}
+
+// The first rule that the lent memory breaks, or 0.
+pub fn memory_rule(
+    counts: &[u32],
+    words: &[u16],
+    session: &[u32],
+    changes: &[i32],
+    out: &[u8],
+) -> u8
+    ensures { λ r. ⌜ r ≡ verdict (m.memoryRules (m.memory (now (counts .entry)) (now (words .entry)) (now (session .entry)) (now (changes .entry)) (now (out .entry)))) ⌝ }
+{
+    if too_small(
+        counts.len(),
+        words.len(),
+        session.len(),
+        changes.len(),
+        out.len(),
+    ) {
+        return 3;
+    }
+    if miscounted(counts[0], counts[1], counts[2]) {
+        return 10;
+    }
+    0
 }
 
 // Answers a line in memory that breaks none of its own rules: the lines of its answer are put at the front of the output.
@@ -63,17 +88,9 @@ pub fn take_line(
 ) -> Taken
     ensures { λ r. ⌜ m.Stepped (m.memory (now (counts .entry)) (now (words .entry)) (now (session .entry)) (now (changes .entry)) (now (out .entry))) (now (line .entry)) r (m.memory (now (counts .exit)) (now (words .exit)) (now (session .exit)) (now (changes .exit)) (now (out .exit))) ⌝ }
 {
-    if too_small(
-        counts.len(),
-        words.len(),
-        session.len(),
-        changes.len(),
-        out.len(),
-    ) {
-        return Taken::Refused(3);
-    }
-    if miscounted(counts[0], counts[1], counts[2]) {
-        return Taken::Refused(10);
+    let rule = memory_rule(counts, words, session, changes, out);
+    if rule != 0 {
+        return Taken::Refused(rule);
     }
     Taken::Written(answer_line(counts, words, session, changes, line, out))
 }

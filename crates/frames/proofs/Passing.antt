@@ -8,17 +8,17 @@ use mathlib.Core.List.{List, [], _∷_, _++_, append-nil}
 use lib.Dec.{ltb, eqb}
 use lib.ListN.{length, getD, take, drop, length-append, length-take, length-drop, drop-of-length-le}
 use lib.Seq.{take-all}
-use borrow.Author.Tests.{ltb-false, le-ltb}
-use Rattle.simulation.proofs.Sets.{clash, or-false-l, or-false-r}
+use borrow.Author.Tests.{ltb-false, lt-ltb, le-ltb}
+use Rattle.simulation.proofs.Sets.{clash}
 use Rattle.session.specs.Limits.{maxChanges}
 use Rattle.promises.specs.Answers.{accepted, refused}
 use Rattle.promises.specs.Rules.{rule, verdict}
-use Rattle.promises.proofs.Verdicts.{accepts-or, verdict-pass, verdict-skip, row-passed, row-broken, rows-end}
+use Rattle.promises.proofs.Verdicts.{accepts-or, verdict-pass, verdict-skip, row-passed, row-broken}
 use Rattle.frames.specs.declared.Progress.{Progress}
 use Rattle.frames.specs.declared.Taken.the-variants as T
 use Rattle.frames.specs.Frames.{Frame, state, node, run, edit, walk, nothing, frameOf}
 use Rattle.frames.specs.Lines.{lineEnds, lineIn, frontSize, Keeps, Gathers}
-use Rattle.frames.specs.Machine.{Memory, memory, outputSize, tooSmall, miscounted, memoryRules, Prints, Before, After, Answers, Stepped}
+use Rattle.frames.specs.Machine.{Memory, memory, outputSize, memoryRules, Prints, Before, After, Answers, Stepped}
 use Rattle.frames.specs.Program.{Fresh}
 use Rattle.frames.specs.Blocks.{inputRules, Point, point, outputAfter, withOutput, GoesOn, Passes, stops, begins, answers, Refuses, BlockTaken, InputEnded}
 use Rattle.frames.proofs.Fronts.{keeps-long, keeps-same}
@@ -29,16 +29,12 @@ use Rattle.frames.proofs.Takes.{Counted, Passed, rules-passed, passed-r
 module _ (m : Memory) (front : List ℕ) where
   pub input-passed : verdict (inputRules m front) ≡ 0 → Passed m × (frontSize ≤ length front)
   input-passed ok =
-      let first = verdict-pass 3 (tooSmall m || ltb (length front) frontSize) (rule 10 (miscounted m) ∷ []) (omega arith) ok in (
-        rules-passed m
-            (verdict-skip 3 (tooSmall m) (rule 10 (miscounted m) ∷ []) (or-false-l (tooSmall m) (ltb (length front) frontSize) (first .0)) ∙ first .1),
-        ltb-false (length front) frontSize (or-false-r (tooSmall m) (ltb (length front) frontSize) (first .0)),
-      )
+      let first = verdict-pass 3 (ltb (length front) frontSize) (memoryRules m) (omega arith) ok in
+      (rules-passed m (first .1), ltb-false (length front) frontSize (first .0))
 
   pub passed-input : Passed m → frontSize ≤ length front → verdict (inputRules m front) ≡ 0
   passed-input p long =
-      let own = verdict-pass 3 (tooSmall m) (rule 10 (miscounted m) ∷ []) (omega arith) (passed-rules m p) in
-      verdict-skip 3 (tooSmall m || ltb (length front) frontSize) (rule 10 (miscounted m) ∷ []) (rw (own .0) (le-ltb (length front) frontSize long)) ∙ own .1
+      verdict-skip 3 (ltb (length front) frontSize) (memoryRules m) (le-ltb (length front) frontSize long) ∙ passed-rules m p
 
 -- memory at its start breaks none, with a room, an output and a front that are long enough
 pub fresh-passed : (m : Memory) (front : List ℕ) → Fresh m → maxChanges ≤ length (m .room) → outputSize ≤ length (m .out) → frontSize ≤ length front
@@ -352,25 +348,11 @@ end-written m front begun r m' t ok =
 -- ---- the promises, return by return
 
 module _ (m : Memory) (front : List ℕ) where
-  abbrev short : Bool
-  short = tooSmall m || ltb (length front) frontSize
+  pub rule-front : length front < frontSize → 3 ≡ verdict (inputRules m front)
+  rule-front l = row-broken 3 (ltb (length front) frontSize) true (memoryRules m) (sym (lt-ltb (length front) frontSize l)) refl
 
-  -- a = whether the machine's memory is too short
-  module _ (a : Bool) (a-is : a ≡ tooSmall m) where
-    pub rule-short : a ≡ true → 3 ≡ verdict (inputRules m front)
-    rule-short h = row-broken 3 short true (rule 10 (miscounted m) ∷ []) (rw (← a-is, h)) refl
-
-    pub rule-front : a ≡ false → ltb (length front) frontSize ≡ true → 3 ≡ verdict (inputRules m front)
-    rule-front h f = row-broken 3 short true (rule 10 (miscounted m) ∷ []) (rw (← a-is, h, f)) refl
-
-    module _ (long : a ≡ false) (wide : ltb (length front) frontSize ≡ false) (b : Bool) (b-is : b ≡ miscounted m) where
-      pub rule-counts : b ≡ true → 10 ≡ verdict (inputRules m front)
-      rule-counts h =
-          row-passed 3 short false (rule 10 (miscounted m) ∷ []) (rw (← a-is, long, wide)) 10 refl (row-broken 10 (miscounted m) b [] b-is h)
-
-      pub rule-none : b ≡ false → 0 ≡ verdict (inputRules m front)
-      rule-none h =
-          row-passed 3 short false (rule 10 (miscounted m) ∷ []) (rw (← a-is, long, wide)) 0 refl (row-passed 10 (miscounted m) b [] b-is 0 h rows-end)
+  pub rule-others : (k : ℕ) → frontSize ≤ length front → k ≡ verdict (memoryRules m) → k ≡ verdict (inputRules m front)
+  rule-others k l e = row-passed 3 (ltb (length front) frontSize) false (memoryRules m) (sym (le-ltb (length front) frontSize l)) k refl e
 
   pub unbroken-input : (k : ℕ) → k ≡ verdict (inputRules m front) → k ≡ 0 → verdict (inputRules m front) ≡ 0
   unbroken-input k k-is fine = sym k-is ∙ fine

@@ -47,11 +47,13 @@ fits m r moment wide long =
     passed-rules m record { ready = r; counted = (moment, r .few-states, r .few-nodes); room = wide; out = long }
 
 -- the bytes printed are the front of the output
-printed-front : (l : Line) (n : ℕ) (bytes : List ℕ) (m : Memory) → toldTaken (l .answer) ≡ accepted n → Prints bytes m n (l .left) → printedBy l ≡ bytes
-printed-front l n bytes m says p =
-    ap (λ (o : Outcome ℕ). filled o (l .left .out)) says
-    ∙ ap₂ take (p .many) (ap (λ (x : Memory). x .out) (p .left))
-    ∙ take-append-seam bytes (drop (length bytes) (m .out))
+filled-front : (l : Line) (n : ℕ) (bytes rest : List ℕ) → toldTaken (l .answer) ≡ accepted n → n ≡ length bytes → l .left .out ≡ bytes ++ rest
+    → printedBy l ≡ bytes
+filled-front l n bytes rest says many out =
+    ap (λ (o : Outcome ℕ). filled o (l .left .out)) says ∙ ap₂ take many out ∙ take-append-seam bytes rest
+
+printed-bytes : (l : Line) (n : ℕ) (bytes : List ℕ) (m : Memory) → toldTaken (l .answer) ≡ accepted n → Prints bytes m n (l .left) → printedBy l ≡ bytes
+printed-bytes l n bytes m says p = filled-front l n bytes (drop (length bytes) (m .out)) says (p .many) (ap (λ (x : Memory). x .out) (p .left))
 
 -- the line l, taken in the memory m
 module _ (m : Memory) (l : Line) (wide : maxChanges ≤ length (l .room)) (n : ℕ) (says : toldTaken (l .answer) ≡ accepted n) where
@@ -68,7 +70,7 @@ module _ (m : Memory) (l : Line) (wide : maxChanges ≤ length (l .room)) (n : �
         tells = load-told x (m .session) (l .room) (r .session) wide (w .answer) (l .left .session) (l .left .room) (w .loads)
             ∙ ap (λ (v : ℕ). outcome v (loadSummary x)) ok;
         list = load-list x (m .session) (l .room) (r .session) wide (w .answer) (l .left .session) (l .left .room) (w .loads) ok;
-        prints = printed-front l n _ _ says (w .prints);
+        prints = printed-bytes l n _ _ says (w .prints);
         demand2 = demand2 x (m .session) (l .room) (w .answer) (l .left .session) (l .left .room) (w .loads) fine;
         demand3 = demand3 x (m .session) (l .room) (w .answer) (l .left .session) (l .left .room) (w .loads) fine;
       }
@@ -85,7 +87,7 @@ module _ (m : Memory) (l : Line) (wide : maxChanges ≤ length (l .room)) (n : �
       record {
         answer = w .answer;
         tells = edit-told b (m .session) f k u v (l .room) (w .answer) (l .left .session) (l .left .room) wide (w .edits);
-        prints = printed-front l n _ _ says (w .prints);
+        prints = printed-bytes l n _ _ says (w .prints);
         kept = subst (λ (b' : Model). demands.Kept b b' c)
             (same-step b (m .session) f k u v (l .room) (w .answer) (l .left .session) (l .left .room) wide (w .edits))
             (kept b (m .session) f c (w .edits) .0);
@@ -132,9 +134,7 @@ module _ (p : Moment) (m : Memory) (l : Line) (c : Comes p m l) where
   line-prints : printedBy l ≡ printed p (frameOf (l .bytes))
   line-prints =
       let bytes = printed p (frameOf (l .bytes)) in
-      ap (λ (o : Outcome ℕ). filled o (l .left .out)) (c .says)
-      ∙ ap₂ take (c .told .many) (c .told .out)
-      ∙ take-append-seam bytes (drop (length bytes) (l .out))
+      filled-front l (c .count) bytes (drop (length bytes) (l .out)) (c .says) (c .told .many) (c .told .out)
 
   line-demand1 : LineDemand1 p m l
   line-demand1 =

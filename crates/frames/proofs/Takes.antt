@@ -65,9 +65,6 @@ read-parts m = rw (sub-zero, part-from (m .words) 16 (statesRead m), part-from (
 
 -- ---- a frame of the other moment: edits and the order are early, states, nodes and the run are late
 
-abbrev tag : declared.Frame → ℕ
-tag = Declared.tagOf F'.the-type
-
 -- one of three keys
 key : {t a b c : ℕ} → (t ≡ a) ⊎ ((t ≡ b) ⊎ (t ≡ c)) → a ≤ b → b ≤ c → (a ≤ t) × (t ≤ c)
 key h l k =
@@ -227,30 +224,23 @@ module _ (m m' : Memory) (n : ℕ) (r : Ready m) (c : Counted (m .counts)) where
       (λ z. after-counted (frameOf line) (a .after (omega (arith, z, c .0))))
       (accepts-or (getD (m .counts) 0 0))
 
--- ---- the whole promise, return by return
+-- ---- the rules of the memory, and then the line
+
+module _ (m : Memory) (a : Bool) (a-is : a ≡ tooSmall m) where
+  pub rule-short : a ≡ true → 3 ≡ verdict (memoryRules m)
+  rule-short h = row-broken 3 (tooSmall m) a (rule 10 (miscounted m) ∷ []) a-is h
+
+  module _ (long : a ≡ false) (b : Bool) (b-is : b ≡ miscounted m) where
+    pub rule-counts : b ≡ true → 10 ≡ verdict (memoryRules m)
+    rule-counts h = row-passed 3 (tooSmall m) a (rule 10 (miscounted m) ∷ []) a-is 10 long (row-broken 10 (miscounted m) b [] b-is h)
+
+    pub rule-none : b ≡ false → 0 ≡ verdict (memoryRules m)
+    rule-none h =
+        row-passed 3 (tooSmall m) a (rule 10 (miscounted m) ∷ []) a-is 0 long (row-passed 10 (miscounted m) b [] b-is 0 h rows-end)
 
 module _ (m : Memory) (line : List ℕ) where
-  refused-by : (k : ℕ) → (k ≡ 0 → ⊥) → k ≡ verdict (memoryRules m) → Stepped m line (T.Refused k) m
-  refused-by k some e = record {
-    refuses = λ bad. (ap refused e, refl);
-    answers = λ z. absurd (some (e ∙ z));
-  }
-
-  module _ (a : Bool) (a-is : a ≡ tooSmall m) where
-    pub taken-short : a ≡ true → Stepped m line (T.Refused 3) m
-    taken-short h = refused-by 3 (λ z. absurd (omega (arith, z))) (row-broken 3 (tooSmall m) a (rule 10 (miscounted m) ∷ []) a-is h)
-
-    module _ (long : a ≡ false) (b : Bool) (b-is : b ≡ miscounted m) where
-      pub taken-wrong : b ≡ true → Stepped m line (T.Refused 10) m
-      taken-wrong h =
-          refused-by 10 (λ z. absurd (omega (arith, z)))
-          (row-passed 3 (tooSmall m) a (rule 10 (miscounted m) ∷ []) a-is 10 long (row-broken 10 (miscounted m) b [] b-is h))
-
-      pub unbroken : b ≡ false → verdict (memoryRules m) ≡ 0
-      unbroken right =
-          sym
-          (row-passed 3 (tooSmall m) a (rule 10 (miscounted m) ∷ []) a-is 0 long
-          (row-passed 10 (miscounted m) b [] b-is 0 right rows-end))
+  pub taken-refused : (k : ℕ) → k ≡ verdict (memoryRules m) → (k ≡ 0 → ⊥) → Stepped m line (T.Refused k) m
+  taken-refused k e some = record { refuses = λ bad. (ap refused e, refl); answers = λ z. absurd (some (e ∙ z)) }
 
   pub taken-line : (n : ℕ) (m' : Memory) → verdict (memoryRules m) ≡ 0 → Answers m line n m' → Stepped m line (T.Written n) m'
   taken-line n m' ok w = record { refuses = λ bad. absurd (bad ok); answers = λ z. (n, refl, w) }

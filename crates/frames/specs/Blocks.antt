@@ -3,7 +3,7 @@
 use Prim.Native.Nat.{ℕ, _+_, _<_, _≤_}
 use mathlib.Core.Path.{_≡_}
 use mathlib.Core.Logic.{_⊎_}
-use mathlib.Core.Bool.{true, false, _||_}
+use mathlib.Core.Bool.{true, false}
 use mathlib.Core.List.{List, [], _∷_, _++_, map}
 use lib.Dec.{ltb}
 use lib.IntN.{ℤ}
@@ -14,13 +14,13 @@ use Rattle.frames.specs.declared.Taken.the-variants as T
 use Rattle.frames.specs.Frames.{frameOf}
 use Rattle.frames.specs.Lines.{linesAfter, frontSize, Gathers}
 use Rattle.frames.specs.Outputs.{each}
-use Rattle.frames.specs.Machine.{Memory, memory, outputSize, tooSmall, miscounted, Answers, Stepped}
+use Rattle.frames.specs.Machine.{Memory, memory, outputSize, memoryRules, Answers, Stepped}
 use Rattle.frames.specs.Moments.{start}
 use Rattle.frames.specs.Program.{Line, lent, LineByLine, printedBy, bytesOf, Whole}
 
 -- the rules of the lent memory, to which the memory of a line's front belongs
 abbrev pub inputRules : Memory → List ℕ → List Rule
-inputRules m front = rule 3 (tooSmall m || ltb (length front) frontSize) ∷ rule 10 (miscounted m) ∷ []
+inputRules m front = rule 3 (ltb (length front) frontSize) ∷ memoryRules m
 
 -- Where the pass over a block stands: the memory of the front and how much of it the line begun has, the place in the block, how many bytes of
 -- output are written, and the machine's memory.

@@ -10,8 +10,8 @@ use Rattle.frame_input.proofs.answer_block.Tie as tie
 abbrev lent : tie.Start → Memory
 lent s = memory (s .args .counts .now) (s .args .words .now) (s .args .session .now) (s .args .changes .now) (s .args .out .now)
 
-memory-rule-requires : tie.Need-memory-rule-requires
-memory-rule-requires c κs = search needs
+input-rule-requires : tie.Need-input-rule-requires
+input-rule-requires c κs = search needs
 
 same-length : tie.Need-same-length
 same-length c = search needs
@@ -34,12 +34,12 @@ same-length-6 c = search needs
 returns : tie.Need-returns
 returns c =
     let s = c .before .before .before .before .before .before .before .before .before .before .before .before .before .before in
-    block-refused (lent s) (s .args .front .now) (s .args .begun) _ _ (c .before .memory-rule .ensures) (c .if1 .taken) (refl, refl, refl, refl) (s .args .block .now)
+    block-refused (lent s) (s .args .front .now) (s .args .begun) _ _ (c .before .input-rule .ensures) (c .if1 .taken) (refl, refl, refl, refl) (s .args .block .now)
 
 pass-over-requires : tie.Need-pass-over-requires
 pass-over-requires c κs =
     let s = c .before .before .before .before .before .before .before .before .before .before .before .before .before .before .before .before .before .before .before .before in
-    unbroken-input (lent s) (s .args .front .now) _ (c .before .before .before .before .before .before .before .memory-rule .ensures) (c .before .before .before .before .before .before .if1 .left)
+    unbroken-input (lent s) (s .args .front .now) _ (c .before .before .before .before .before .before .before .input-rule .ensures) (c .before .before .before .before .before .before .if1 .left)
 
 same-length-7 : tie.Need-same-length-7
 same-length-7 c = search needs
@@ -63,14 +63,14 @@ returns-2 : tie.Need-returns-2
 returns-2 c =
     let s = c .before .before .before .before .before .before .before .before .before .before .before .before .before .before .before .before .before .before .before .before .before .before .before .before .before .before .before .before .before .before .before .before in
     let w = c .before .before .before .before .before .before .before .before .before .before .before .pass-over in
-    block-passed-over (lent s) (s .args .front .now) (s .args .begun) _ (w .result) (c .before .before .before .before .before .before .before .before .before .before .before .before .before .before .before .before .before .before .before .memory-rule .ensures) (c .before .before .before .before .before .before .before .before .before .before .before .before .before .before .before .before .before .before .if1 .left) (s .args .block .now) _ _
+    block-passed-over (lent s) (s .args .front .now) (s .args .begun) _ (w .result) (c .before .before .before .before .before .before .before .before .before .before .before .before .before .before .before .before .before .before .before .input-rule .ensures) (c .before .before .before .before .before .before .before .before .before .before .before .before .before .before .before .before .before .before .if1 .left) (s .args .block .now) _ _
     (w .ensures)
 
 pub answer-block-spec : {M : Type 1} → statement M
 answer-block-spec =
     tie.close
     (tie.spec
-    memory-rule-requires
+    input-rule-requires
     same-length
     same-length-2
     same-length-3

@@ -13,8 +13,8 @@ use Rattle.frame_input.proofs.answer_end.Tie as tie
 abbrev lent : tie.Start → Memory
 lent s = memory (s .args .counts .now) (s .args .words .now) (s .args .session .now) (s .args .changes .now) (s .args .out .now)
 
-memory-rule-requires : tie.Need-memory-rule-requires
-memory-rule-requires c κs = search needs
+input-rule-requires : tie.Need-input-rule-requires
+input-rule-requires c κs = search needs
 
 same-length : tie.Need-same-length
 same-length c = search needs
@@ -34,7 +34,7 @@ same-length-5 c = search needs
 returns : tie.Need-returns
 returns c =
     let s = c .before .before .before .before .before .before .before .before .before .before .before .before in
-    end-refused (lent s) (s .args .front .now) (s .args .begun) _ _ (c .before .memory-rule .ensures) (c .if1 .taken) (refl, refl, refl, refl)
+    end-refused (lent s) (s .args .front .now) (s .args .begun) _ _ (c .before .input-rule .ensures) (c .if1 .taken) (refl, refl, refl, refl)
 
 same-length-6 : tie.Need-same-length-6
 same-length-6 c = search needs
@@ -54,7 +54,7 @@ same-length-10 c = search needs
 returns-2 : tie.Need-returns-2
 returns-2 c =
     let s = c .before .before .before .before .before .before .before .before .before .before .before .before .before in
-    end-none (lent s) (s .args .front .now) (s .args .begun) _ _ (c .before .before .memory-rule .ensures) (c .before .if1 .left) (c .if2 .taken) (refl, refl, refl, refl)
+    end-none (lent s) (s .args .front .now) (s .args .begun) _ _ (c .before .before .input-rule .ensures) (c .before .if1 .left) (c .if2 .taken) (refl, refl, refl, refl)
 
 within-requires : tie.Need-within-requires
 within-requires c κs = search needs
@@ -67,7 +67,7 @@ answer-line-requires c κs =
     let s = c .before .before .before .before .before .before .before .before .before .before .before .before .before .before .before .before .before .before .before .before in
     passed-rules (lent s)
     (input-passed (lent s) (s .args .front .now)
-    (unbroken-input (lent s) (s .args .front .now) _ (c .before .before .before .before .before .before .before .before .before .memory-rule .ensures) (c .before .before .before .before .before .before .before .before .if1 .left)) .0)
+    (unbroken-input (lent s) (s .args .front .now) _ (c .before .before .before .before .before .before .before .before .before .input-rule .ensures) (c .before .before .before .before .before .before .before .before .if1 .left)) .0)
 
 same-length-11 : tie.Need-same-length-11
 same-length-11 c = search needs
@@ -87,14 +87,14 @@ same-length-15 c = search needs
 returns-3 : tie.Need-returns-3
 returns-3 c =
     let s = c .before .before .before .before .before .before .before .before .before .before .before .before .before .before .before .before .before .before .before .before .before .before .before .before .before .before .before .before .before .before in
-    end-line (lent s) (s .args .front .now) (s .args .begun) _ _ (c .before .before .before .before .before .before .before .before .before .before .before .before .before .before .before .before .before .before .before .memory-rule .ensures) (c .before .before .before .before .before .before .before .before .before .before .before .before .before .before .before .before .before .before .if1 .left) _ _ (c .before .before .before .before .before .before .before .before .before .before .before .before .before .before .before .before .before .if2 .left) (c .before .before .before .before .before .before .before .before .before .before .before .before .before .before .before .before .within .ensures)
+    end-line (lent s) (s .args .front .now) (s .args .begun) _ _ (c .before .before .before .before .before .before .before .before .before .before .before .before .before .before .before .before .before .before .before .input-rule .ensures) (c .before .before .before .before .before .before .before .before .before .before .before .before .before .before .before .before .before .before .if1 .left) _ _ (c .before .before .before .before .before .before .before .before .before .before .before .before .before .before .before .before .before .if2 .left) (c .before .before .before .before .before .before .before .before .before .before .before .before .before .before .before .before .within .ensures)
     (refl, refl, refl) (c .before .before .before .before .before .before .before .before .before .answer-line .ensures)
 
 pub answer-end-spec : {M : Type 1} → statement M
 answer-end-spec =
     tie.close
     (tie.spec
-    memory-rule-requires
+    input-rule-requires
     same-length
     same-length-2
     same-length-3
