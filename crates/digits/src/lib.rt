@@ -67,7 +67,7 @@ pub fn place(value: u32, i: u32) -> u32
     requires { ⌜ i < 8 ⌝ }
     ensures { λ r. ⌜ r ≡ d.place value i ⌝ }
 {
-    (value >> (i * 4)) % 16
+    (value >> (i * 4)) & 15
 }
 
 // The byte of a digit.
@@ -75,11 +75,8 @@ pub fn letter(digit: u32) -> u8
     requires { ⌜ digit < 16 ⌝ }
     ensures { λ r. ⌜ r ≡ d.letter digit ⌝ }
 {
-    if digit < 10 {
-        (48 + digit) as u8
-    } else {
-        (55 + digit) as u8
-    }
+    // Seven bytes lie between 9 and A.
+    (48 + digit + 7 * (9 < digit) as u32) as u8
 }
 
 // Writes a number in so many digits, the most significant first.

@@ -1,13 +1,16 @@
 //! Times the engine beside its twin in plain Rust and the plain fixed-point program, in one run and in turns.
 //!
-//!     bench [--rounds N] [--sizes N,N,..] [--only TEXT]
+//!     bench [--rounds N] [--sizes N,N,..] [--only TEXT] [--before PATH]
 //!
-//! With `--only`, the workloads whose name has the text.
+//! With `--only`, the workloads whose name has the text. With `--before`, an earlier build of the frame program, timed
+//! beside the present one.
 //!
 //! Every call is made on all three before it is timed, and answers, memory and change lists are compared; while the
 //! engine and its twin are timed, their answers are compared again. The table has the time of one call by medians, and the
 //! mean of trials and changes of a call. The plain program has no session, so its question tests no layout.
 
+mod frames;
+mod printing;
 mod timing;
 mod workloads;
 
@@ -15,6 +18,7 @@ use comparison::{Engine, Twin};
 use reference::Book;
 use reference::layout::image_of;
 use reference::rules::{ROOM, SESSION};
+use std::path::PathBuf;
 use std::time::Duration;
 use timing::{Memory, Times, plain_call, plain_pass};
 use workloads::{Workload, workloads};
@@ -26,13 +30,17 @@ struct Options {
     rounds: usize,
     sizes: Vec<usize>,
     only: String,
+    before: Option<PathBuf>,
 }
 
 fn main() {
+    if std::env::args().nth(1).is_some_and(|word| word == printing::PLAIN) {
+        return frames::answer_frames().expect("input and output stay open");
+    }
     let options = match options(std::env::args().skip(1)) {
         Ok(options) => options,
         Err(fault) => {
-            eprintln!("{fault}\nbench [--rounds N] [--sizes N,N,..] [--only TEXT]");
+            eprintln!("{fault}\nbench [--rounds N] [--sizes N,N,..] [--only TEXT] [--before PATH]");
             std::process::exit(2);
         }
     };
@@ -45,15 +53,19 @@ fn main() {
             row(workload, options.rounds);
         }
     }
+    if printing::NAME.contains(&options.only) {
+        printing::rows(options.before, options.rounds);
+    }
 }
 
 fn options(mut words: impl Iterator<Item = String>) -> Result<Options, String> {
-    let mut options = Options { rounds: 51, sizes: vec![64, 128, 256, 512], only: String::new() };
+    let mut options = Options { rounds: 51, sizes: vec![64, 128, 256, 512], only: String::new(), before: None };
     while let Some(word) = words.next() {
         let value = words.next().ok_or(format!("{word} needs a value"))?;
         let number = |text: &str| text.parse::<usize>().map_err(|_| format!("{text} is no number"));
         match word.as_str() {
             "--only" => options.only = value,
+            "--before" => options.before = Some(value.into()),
             "--rounds" => options.rounds = number(&value)?.max(1),
             "--sizes" => {
                 options.sizes = value.split(',').map(number).collect::<Result<_, _>>()?;

@@ -127,7 +127,7 @@ fn ring(random: &mut Random, nodes: usize) -> (Case, Vec<Call>) {
 }
 
 /// A chain of nodes into one with an edge to itself, which comes and goes; states linked to themselves.
-fn chain(nodes: usize, number: impl Fn(usize) -> usize) -> (Case, Vec<Call>) {
+pub fn chain(nodes: usize, number: impl Fn(usize) -> usize) -> (Case, Vec<Call>) {
     let mut case = Case { samples: vec![0; nodes], ..Case::default() };
     for state in 0..STATES {
         case.state(0, 0, 1 << state);
