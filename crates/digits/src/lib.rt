@@ -1,7 +1,7 @@
 // Hexadecimal digits: a byte or a line read, a number written.
 ghost use mathlib.Core.Path.{_≡_};
 ghost use mathlib.Core.Bool.{true};
-ghost use Prim.Native.Nat.{_<_, _≤_, _+_};
+ghost use Prim.Native.Nat.{_<_, _≤_, _+_, _*_};
 ghost use lib.ListN.{length};
 ghost use Rattle.listing.specs.Placed.{Placed};
 ghost use Rattle.frames.specs.Digits as d;
@@ -79,13 +79,34 @@ pub fn letter(digit: u32) -> u8
     (48 + digit + 7 * (9 < digit) as u32) as u8
 }
 
-// Writes a number in so many digits, the most significant first.
+// The bytes of the last four digits of a number, made at once in one word: the first digit's is the lowest.
+fn letters(value: u32) -> u32
+    ensures { λ r. ⌜ r ≡ d.letter (d.place value 3) + 256 * (d.letter (d.place value 2) + 256 * (d.letter (d.place value 1) + 256 * d.letter (d.place value 0))) ⌝ }
+{
+    // The two bytes change places and move apart, then the two digits of each.
+    let bytes = ((value >> 8) & 0xFF) + ((value & 0xFF) << 16);
+    let places = ((bytes >> 4) & 0x000F_000F) + ((bytes & 0x000F_000F) << 8);
+    // With 6 more, a digit above 9 is 16 or more.
+    let raised = ((places + 0x0606_0606) >> 4) & 0x0101_0101;
+    places + 0x3030_3030 + 7 * raised
+}
+
+// Writes a number in so many digits, the most significant first: four at a time, and the rest one by one.
 pub fn put_digits(out: &mut [u8], at: usize, count: u32, value: u32) -> usize
     requires { ⌜ (count ≤ 8) × (at + count ≤ length (now out)) ⌝ }
     ensures { λ r. ⌜ Placed (now (out .entry)) at (d.digits count value) (now (out .exit)) r ⌝ }
 {
     let mut next = at;
     let mut left = count;
+    while 4 <= left {
+        left -= 4;
+        let line = letters(value >> (left * 4));
+        out[next] = (line & 0xFF) as u8;
+        out[next + 1] = ((line >> 8) & 0xFF) as u8;
+        out[next + 2] = ((line >> 16) & 0xFF) as u8;
+        out[next + 3] = (line >> 24) as u8;
+        next += 4;
+    }
     while 0 < left {
         left -= 1;
         out[next] = letter(place(value, left));
