@@ -2,7 +2,7 @@
 use Prim.Native.Nat.{ℕ, zero, suc, _+_, _-_, _*_, _/_, _%_, _^_, _<_}
 use native.Mathlib.Omega.{arith}
 use native.Mathlib.Nat.{mod-lt, lt-of-lt-of-le, add-comm}
-use mathlib.Core.Path.{_≡_, sym, ap, ap₂, _∙_}
+use mathlib.Core.Path.{_≡_, refl, sym, ap, ap₂, _∙_}
 use lib.Bits.{bitAnd, and-block, and-mask, and-zero-r}
 use lib.Pow.{pow-pos, pow-mono, split, high, low, field, shr-shr, mod-mod-pow, ones-lt}
 
@@ -20,10 +20,14 @@ pub mask-keeps : (j k m x : ℕ) → bitAnd x (mask j k m) ≡ kept j k m x
 unfolding mask kept
 mask-keeps j k zero x = and-zero-r x
 mask-keeps j k (suc m) x =
-    let few : 2 ^ k - 1 < 2 ^ (j + k) = lt-of-lt-of-le (ones-lt k) (pow-mono (omega arith)) in
-    ap (λ (n : ℕ). bitAnd n (mask j k (suc m))) (sym (split x (j + k)))
-    ∙ and-block (j + k) (x / 2 ^ (j + k)) (mask j k m) (x % 2 ^ (j + k)) (2 ^ k - 1) (mod-lt x (pow-pos (j + k))) few
-    ∙ ap₂ (λ (a b : ℕ). a * 2 ^ (j + k) + b) (mask-keeps j k m (x / 2 ^ (j + k))) (and-mask (x % 2 ^ (j + k)) k ∙ mod-mod-pow x j k)
+    let w = j + k in
+    let top = x / 2 ^ w in
+    let lowest = x % 2 ^ w in
+    let few : 2 ^ k - 1 < 2 ^ w = lt-of-lt-of-le (ones-lt k) (pow-mono (omega arith)) in
+    let apart : bitAnd (top * 2 ^ w + lowest) (mask j k (suc m)) ≡ bitAnd top (mask j k m) * 2 ^ w + bitAnd lowest (2 ^ k - 1) =
+    and-block w top (mask j k m) lowest (2 ^ k - 1) (mod-lt x (pow-pos w)) few in
+    let here : bitAnd lowest (2 ^ k - 1) ≡ x % 2 ^ k = and-mask lowest k ∙ mod-mod-pow x j k in
+    rw (split x w) at apart ∙ ap₂ (λ (a b : ℕ). a * 2 ^ w + b) (mask-keeps j k m top) here
 
 -- a lowest field f and the fields r above it
 module _ (j k m r f : ℕ) (fits : f < 2 ^ (j + k)) where
@@ -36,12 +40,10 @@ module _ (j k m r f : ℕ) (fits : f < 2 ^ (j + k)) where
       ap₂ (λ (a b : ℕ). kept j k m a * 2 ^ (j + k) + b) (high r (j + k) fits)
       (sym (mod-mod-pow fields j k) ∙ ap (λ (n : ℕ). n % 2 ^ k) (low r (j + k) fits))
 
-  -- shifted by i, of which the field has room beside the k bits
+  -- shifted by i, where the field has room for i bits beside the k
   module _ (i h : ℕ) (room : j + k ≡ h + (k + i)) where
     upper : fields / 2 ^ i / 2 ^ (j + k) ≡ r / 2 ^ i
-    upper =
-        shr-shr fields i (j + k) ∙ ap (λ (n : ℕ). fields / 2 ^ n) (add-comm i (j + k)) ∙ sym (shr-shr fields (j + k) i)
-        ∙ ap (λ (n : ℕ). n / 2 ^ i) (high r (j + k) fits)
+    upper = rw (shr-shr fields i (j + k), add-comm i (j + k), ← shr-shr fields (j + k) i, high r (j + k) fits) refl
 
     cut : fields % 2 ^ (k + i) ≡ f % 2 ^ (k + i)
     cut =

@@ -10,7 +10,7 @@ use Rattle.listing.specs.Placed.{Placed}
 use Rattle.listing.proofs.Placing.{placed-append}
 use Rattle.frames.specs.Digits.{letter, place, digits}
 use Rattle.frames.proofs.Written.{place-is, place-fits, Writing, writing-more}
-use Rattle.digits.proofs.Sums.{letter-fits, line}
+use Rattle.digits.proofs.Sums.{letter-fits, word}
 
 -- the digits of a number without its last l
 place-before : (x l i : ℕ) → place (x / 2 ^ (l * 4)) i ≡ place x (i + l)
@@ -31,7 +31,7 @@ bytes-of r a b c d la lb lc e =
     )
 
 module _ (entry : List ℕ) (at count x : ℕ) (room : at + count ≤ length entry) where
-  pub writing-four : (out : List ℕ) (next left : ℕ) → Writing entry at count x out next left → 4 ≤ left → (r : ℕ) → r ≡ line (x / 2 ^ ((left - 4) * 4))
+  pub writing-four : (out : List ℕ) (next left : ℕ) → Writing entry at count x out next left → 4 ≤ left → (r : ℕ) → r ≡ word (x / 2 ^ ((left - 4) * 4))
       → Writing entry at count x
       (set (set (set (set out next (bitAnd r 255)) (next + 1) (bitAnd (r / 2 ^ 8) 255)) (next + 2) (bitAnd (r / 2 ^ 16) 255)) (next + 3) (r / 2 ^ 24))
       (next + 4)

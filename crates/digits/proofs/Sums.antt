@@ -45,6 +45,7 @@ digits-of : (p q : ℕ) → p < 256 → q < 256
     → bitAnd ((q * 65536 + p) / 2 ^ 4) 0xF000F + bitAnd (q * 65536 + p) 0xF000F * 2 ^ 8 % 2 ^ 32 ≡ four (p / 16) (p % 16) (q / 16) (q % 16)
 digits-of p q lp lq = rw (uppers p q lp lq, lowers p q lp) (omega (arith, lp, lq))
 
+-- their fifth bits
 tops : (a b c d : ℕ) → a < 256 → b < 256 → c < 256
     → bitAnd (four a b c d / 2 ^ 4) 0x1010101 ≡ four (a / 16 % 2) (b / 16 % 2) (c / 16 % 2) (d / 16 % 2)
 unfolding mask kept
@@ -54,6 +55,7 @@ tops a b c d la lb lc =
     (kept-shifted 7 1 2 (d * 256 + c) b lb 4 3 refl
     ∙ ap (λ (n : ℕ). n * 256 + b / 16 % 2) (kept-shifted 7 1 1 d c lc 4 3 refl ∙ ap (λ (n : ℕ). n * 256 + c / 16 % 2) (omega arith)))
 
+-- 48 and seven times a bit added to each
 sums : (a b c d s t u v : ℕ)
     → four a b c d + 0x30303030 + 7 * four s t u v ≡ ((48 + a) + 7 * s) + 256 * (((48 + b) + 7 * t) + 256 * (((48 + c) + 7 * u) + 256 * ((48 + d) + 7 * v)))
 sums a b c d s t u v = omega arith
@@ -107,10 +109,10 @@ module _ (x : ℕ) where
       letter-sum (place x i) (top i) (λ (l : place x i < 10). omega (arith, l)) (λ (l : 10 ≤ place x i). omega (arith, l, place-fits x i))
 
   -- the bytes of the last four digits, the first one lowest
-  abbrev pub line : ℕ
-  line = letter (place x 3) + 256 * (letter (place x 2) + 256 * (letter (place x 1) + 256 * letter (place x 0)))
+  abbrev pub word : ℕ
+  word = letter (place x 3) + 256 * (letter (place x 2) + 256 * (letter (place x 1) + 256 * letter (place x 0)))
 
-  pub line-is : places + 0x30303030 + 7 * raised ≡ line
-  line-is =
+  pub word-is : places + 0x30303030 + 7 * raised ≡ word
+  word-is =
       rw (raised-are, places-are, ← letter-top 3, ← letter-top 2, ← letter-top 1, ← letter-top 0)
       (sums (place x 3) (place x 2) (place x 1) (place x 0) (top 3) (top 2) (top 1) (top 0))

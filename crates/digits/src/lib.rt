@@ -83,7 +83,7 @@ pub fn letter(digit: u32) -> u8
 fn letters(value: u32) -> u32
     ensures { λ r. ⌜ r ≡ d.letter (d.place value 3) + 256 * (d.letter (d.place value 2) + 256 * (d.letter (d.place value 1) + 256 * d.letter (d.place value 0))) ⌝ }
 {
-    // The two bytes change places and move apart, then the two digits of each.
+    // The last two bytes of the number change places and move apart, then the two digits of each.
     let bytes = ((value >> 8) & 0xFF) + ((value & 0xFF) << 16);
     let places = ((bytes >> 4) & 0x000F_000F) + ((bytes & 0x000F_000F) << 8);
     // With 6 more, a digit above 9 is 16 or more.
@@ -100,11 +100,11 @@ pub fn put_digits(out: &mut [u8], at: usize, count: u32, value: u32) -> usize
     let mut left = count;
     while 4 <= left {
         left -= 4;
-        let line = letters(value >> (left * 4));
-        out[next] = (line & 0xFF) as u8;
-        out[next + 1] = ((line >> 8) & 0xFF) as u8;
-        out[next + 2] = ((line >> 16) & 0xFF) as u8;
-        out[next + 3] = (line >> 24) as u8;
+        let word = letters(value >> (left * 4));
+        out[next] = (word & 0xFF) as u8;
+        out[next + 1] = ((word >> 8) & 0xFF) as u8;
+        out[next + 2] = ((word >> 16) & 0xFF) as u8;
+        out[next + 3] = (word >> 24) as u8;
         next += 4;
     }
     while 0 < left {

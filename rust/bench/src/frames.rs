@@ -1,7 +1,7 @@
-//! The frame program in plain Rust, written for speed: the twin's calls, and digits from a table. It answers what the
-//! benchmark asks, frames that break no rule.
+//! The frame program in plain Rust, written for speed: digits come from a table, and the calls are the twin's or the
+//! engine's. It answers what the benchmark asks, frames that break no rule.
 
-use comparison::{Case, Subject, Twin};
+use comparison::{Case, Subject};
 use reference::rules::{ROOM, SESSION};
 use std::io::{BufRead, BufReader, Result, Write, stdin, stdout};
 use trigger_engine::lent::Answer;
@@ -10,7 +10,7 @@ use trigger_engine::lent::Answer;
 const HEAD: usize = 13;
 /// The bytes of the line of a change.
 const CHANGE: usize = 11;
-/// As much output as the frame program gathers before it writes.
+/// The size of the output memory, that of the frame program.
 const OUTPUT: usize = 262_144;
 
 /// The two digits of each byte.
@@ -65,35 +65,34 @@ struct Frames {
 
 impl Frames {
     /// Takes one line; states and nodes have no answer.
-    fn take(&mut self, line: &[u8]) -> Option<Answer> {
+    fn take<S: Subject>(&mut self, subject: S, line: &[u8]) -> Option<Answer> {
         let Frames { case, session, room } = self;
         let mut fields = numbers(line);
         let mut next = || fields.next().expect("no frame of the benchmark is short");
         match &line[..2] {
             b"01" => case.state(next(), next(), next().into()),
             b"02" => case.samples.push(next()),
-            b"03" => return Some(Twin.load(session, case, room)),
-            b"04" => return Some(Twin.insert(session, next().into(), next().into(), room)),
-            _ => return Some(Twin.delete(session, next().into(), next().into(), room)),
+            b"03" => return Some(subject.load(session, case, room)),
+            b"04" => return Some(subject.insert(session, next().into(), next().into(), room)),
+            _ => return Some(subject.delete(session, next().into(), next().into(), room)),
         }
         None
     }
 }
 
-/// Reads frames from standard input and writes their answers to standard output.
-pub fn answer_frames() -> Result<()> {
+/// Reads frames from standard input and writes their answers, with a subject's calls, to standard output.
+pub fn answer_frames<S: Subject>(subject: S) -> Result<()> {
     let mut input = BufReader::with_capacity(65_536, stdin().lock());
     let mut frames = Frames { case: Case::default(), session: vec![0; SESSION], room: vec![0; ROOM] };
     let (mut out, mut used) = (vec![0; OUTPUT], 0);
     let mut line = Vec::new();
     while input.read_until(b'\n', &mut line)? > 0 {
-        if let Some(answer) = frames.take(line.trim_ascii_end()) {
+        if let Some(answer) = frames.take(subject, line.trim_ascii_end()) {
             used += put_answer(&mut out[used..], answer, &frames.room);
         }
         line.clear();
         if out.len() - used < HEAD + CHANGE * ROOM || input.buffer().is_empty() {
             stdout().write_all(&out[..used])?;
-            stdout().flush()?;
             used = 0;
         }
     }

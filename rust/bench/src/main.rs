@@ -1,9 +1,10 @@
-//! Times the engine beside its twin in plain Rust and the plain fixed-point program, in one run and in turns.
+//! Times the engine beside its twin in plain Rust and the plain fixed-point program, in one run and in turns; then the
+//! frame program, `target/bin/trigger`, which prints long change lists.
 //!
 //!     bench [--rounds N] [--sizes N,N,..] [--only TEXT] [--before PATH]
 //!
-//! With `--only`, the workloads whose name has the text. With `--before`, an earlier build of the frame program, timed
-//! beside the present one.
+//! With `--only`, the workloads whose name has the text (`printing` for the last). With `--before`, an earlier build of the
+//! frame program, timed beside the present one. Sizes are those of the calls; what is printed has one size.
 //!
 //! Every call is made on all three before it is timed, and answers, memory and change lists are compared; while the
 //! engine and its twin are timed, their answers are compared again. The table has the time of one call by medians, and the
@@ -14,7 +15,7 @@ mod printing;
 mod timing;
 mod workloads;
 
-use comparison::{Engine, Twin};
+use comparison::{Engine, Twin, program};
 use reference::Book;
 use reference::layout::image_of;
 use reference::rules::{ROOM, SESSION};
@@ -34,8 +35,11 @@ struct Options {
 }
 
 fn main() {
-    if std::env::args().nth(1).is_some_and(|word| word == printing::PLAIN) {
-        return frames::answer_frames().expect("input and output stay open");
+    // The benchmark starts itself as a frame program in plain Rust.
+    match std::env::args().nth(1).as_deref() {
+        Some(printing::WITH_TWIN) => return frames::answer_frames(Twin).expect("input and output stay open"),
+        Some(printing::WITH_ENGINE) => return frames::answer_frames(Engine).expect("input and output stay open"),
+        _ => {}
     }
     let options = match options(std::env::args().skip(1)) {
         Ok(options) => options,
@@ -44,6 +48,7 @@ fn main() {
             std::process::exit(2);
         }
     };
+    let program = if printing::NAME.contains(&options.only) { program::path() } else { None };
     println!(
         "{:<24} {:>5} {:>7} {:>7} {:>10} {:>10} {:>12} {:>11} {:>12}",
         "workload", "nodes", "trials", "changes", "engine ns", "twin ns", "plain ns", "engine/twin", "plain/engine"
@@ -53,8 +58,8 @@ fn main() {
             row(workload, options.rounds);
         }
     }
-    if printing::NAME.contains(&options.only) {
-        printing::rows(options.before, options.rounds);
+    if let Some(program) = program {
+        printing::rows(program, options.before, options.rounds);
     }
 }
 

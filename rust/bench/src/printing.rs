@@ -1,7 +1,7 @@
-//! Long change lists printed: the frame program beside plain Rust that writes the same bytes.
+//! Long change lists printed: the frame program beside plain Rust that writes the same bytes with a table of digits.
 
 use crate::workloads::{Call, chain};
-use comparison::{Case, Edit, program};
+use comparison::{Case, Edit};
 use reference::rules::{NODES, ROOM};
 use std::io::{Read, Write};
 use std::path::PathBuf;
@@ -10,10 +10,14 @@ use std::time::Instant;
 
 /// The name of the table.
 pub const NAME: &str = "printing 8,192 changes";
-/// The word by which this program is started as the plain frame program.
-pub const PLAIN: &str = "--answer-frames";
+/// The word by which this program is started as a frame program in plain Rust, with the twin's calls.
+pub const WITH_TWIN: &str = "--answer-with-twin";
+/// The same, with the engine's calls: then only reading and printing differ from the frame program.
+pub const WITH_ENGINE: &str = "--answer-with-engine";
 /// A run makes the list of edits so many times.
 const REPEATS: usize = 8;
+/// What a pipe holds.
+const PIPE: usize = 65_536;
 
 /// A frame program, and the nanoseconds of its runs.
 struct Printer {
@@ -30,8 +34,9 @@ impl Printer {
         Printer { name, command, times: Default::default() }
     }
 
-    /// Starts the program on an input that a pipe can hold.
+    /// Starts the program. Its whole input is written before any output is read, so a pipe must hold it.
     fn start(&mut self, input: &[u8], output: Stdio) -> Child {
+        assert!(input.len() <= PIPE, "the input is longer than a pipe holds");
         let child = self.command.stdout(output).spawn();
         let mut child = child.unwrap_or_else(|error| panic!("{}: {error}", self.name));
         child.stdin.take().expect("its input is a pipe").write_all(input).expect("it takes its input");
@@ -41,7 +46,7 @@ impl Printer {
     /// Reads what the program writes, if that is a pipe, and waits for its end.
     fn finish(&self, mut child: Child, mut keep: impl FnMut(&[u8])) {
         if let Some(mut output) = child.stdout.take() {
-            let mut block = vec![0; 65_536];
+            let mut block = vec![0; PIPE];
             loop {
                 match output.read(&mut block).expect("its output stays open") {
                     0 => break,
@@ -71,8 +76,8 @@ impl Printer {
         }
     }
 
-    /// The nanoseconds of a line of so many, to nowhere and over a pipe: what the edits add to a run. A run is too long to
-    /// have a median without interruptions, so it is the least of the rounds that counts.
+    /// What the edits add to a run, for each of the lines that they print: to nowhere, and over a pipe. The least of all
+    /// rounds counts, for most runs are interrupted somewhere.
     fn of_a_line(&self, lines: usize) -> [f64; 2] {
         let least = |times: &Vec<f64>| times.iter().copied().fold(f64::INFINITY, f64::min);
         let [loaded, edited, loaded_piped, edited_piped] = self.times.each_ref().map(least);
@@ -87,7 +92,7 @@ fn frame_of(edit: Edit) -> String {
     }
 }
 
-/// The frames that load a case, its last edge first.
+/// The frames that load a case. Of a chain the last edge comes first, so that hardly a pair is tried before the edits.
 fn loading(case: &Case) -> String {
     let states = case.masks.iter().zip(&case.values).zip(&case.links);
     let states = states.map(|((mask, value), links)| format!("01{mask:04X}{value:04X}{links:04X}\n"));
@@ -97,41 +102,45 @@ fn loading(case: &Case) -> String {
     states.chain(nodes).chain(run).chain(edges).collect()
 }
 
-/// Runs each program once and compares what they answer.
-fn compare(printers: &mut [Printer], input: &str) {
-    let answers: Vec<Vec<u8>> = printers.iter_mut().map(|printer| printer.answers(input.as_bytes())).collect();
-    for (printer, own) in printers.iter().zip(&answers) {
-        assert!(*own == answers[0], "{}: not the bytes of {}", printer.name, printers[0].name);
+/// Runs each program and compares what they answer. Gives the number of lines.
+fn lines_of(printers: &mut [Printer], input: &str) -> usize {
+    let answers = printers[0].answers(input.as_bytes());
+    for printer in &mut printers[1..] {
+        assert!(printer.answers(input.as_bytes()) == answers, "{} answers otherwise", printer.name);
     }
+    answers.iter().filter(|byte| **byte == b'\n').count()
 }
 
 /// Times the frame program, an earlier build of it where one is given, and plain Rust, in turns, and prints a row for each.
-pub fn rows(before: Option<PathBuf>, rounds: usize) {
-    let Some(now) = program::path() else { return };
-    let own = std::env::current_exe().expect("this program has a path");
-    let mut printers = vec![Printer::new("plain Rust", own, &[PLAIN]), Printer::new("frame program", now, &[])];
-    printers.extend(before.map(|path| Printer::new("the one before", path, &[])));
+pub fn rows(program: PathBuf, before: Option<PathBuf>, rounds: usize) {
+    let own = || std::env::current_exe().expect("this program has a path");
+    let mut printers = vec![
+        Printer::new("twin, table of digits", own(), &[WITH_TWIN]),
+        Printer::new("engine, table of digits", own(), &[WITH_ENGINE]),
+        Printer::new("frame program", program, &[]),
+    ];
+    printers.extend(before.map(|path| Printer::new("frame program before", path, &[])));
     let (case, calls) = chain(NODES, |place| place);
     let edits = calls.iter().map(|call| match call {
         Call::Edit(edit) => frame_of(*edit),
         Call::Load | Call::Fires => unreachable!("a chain is loaded once, and edited"),
     });
-    let (loading, edits) = (loading(&case), edits.collect::<String>());
-    compare(&mut printers, &format!("{loading}{edits}"));
-    let input = loading.clone() + &edits.repeat(REPEATS);
+    let (loading, edits) = (loading(&case), edits.collect::<String>().repeat(REPEATS));
+    let edited = loading.clone() + &edits;
+    let lines = lines_of(&mut printers, &edited) - lines_of(&mut printers, &loading);
+    assert_eq!(lines, REPEATS * calls.len() * (1 + ROOM), "an edit does not change every pair");
     let count = printers.len();
     for round in 0..rounds {
         // Each goes first in its turn.
         for turn in 0..count {
-            printers[(round + turn) % count].pass(loading.as_bytes(), input.as_bytes());
+            printers[(round + turn) % count].pass(loading.as_bytes(), edited.as_bytes());
         }
     }
-    let lines = REPEATS * calls.len() * (1 + ROOM);
-    let plain = printers[0].of_a_line(lines);
-    println!("\n{NAME:<24} {:>10} {:>10} {:>12} {:>10}", "ns a line", "to plain", "over a pipe", "to plain");
+    let twin = printers[0].of_a_line(lines);
+    println!("\n{NAME:<24} {:>10} {:>10} {:>12} {:>10}", "ns a line", "/twin", "over a pipe", "/twin");
     for printer in &printers {
         let [nowhere, pipe] = printer.of_a_line(lines);
         let name = printer.name;
-        println!("{name:<24} {nowhere:>10.2} {:>10.2} {pipe:>12.2} {:>10.2}", nowhere / plain[0], pipe / plain[1]);
+        println!("{name:<24} {nowhere:>10.2} {:>10.2} {pipe:>12.2} {:>10.2}", nowhere / twin[0], pipe / twin[1]);
     }
 }

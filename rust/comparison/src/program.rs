@@ -10,7 +10,7 @@ use std::time::Duration;
 /// How long an answer may take.
 const PATIENCE: Duration = Duration::from_secs(60);
 
-/// Where the frame program is. Where it is missing, tests fail, unless `TRIGGER_WITHOUT_PROGRAM` is set.
+/// Where the frame program is. Where it is missing, tests and benchmark fail, unless `TRIGGER_WITHOUT_PROGRAM` is set.
 pub fn path() -> Option<PathBuf> {
     let path = Path::new(env!("CARGO_MANIFEST_DIR")).join("../../target/bin/trigger");
     if path.exists() {

@@ -1,4 +1,4 @@
--- The letters stand seven places after the figures.
+-- Seven bytes lie between the figures and the letters.
 use Prim.Native.Nat.{ℕ, _+_, _*_, _<_, _≤_}
 use mathlib.Core.Path.{_≡_, ap}
 use mathlib.Core.Bool.{Bool, true, false}
@@ -12,9 +12,9 @@ use Rattle.digits.proofs.Sums.{letter-sum}
 use Rattle.digits.proofs.letter.Statement.{statement}
 use Rattle.digits.proofs.letter.Tie as tie
 
-at-most-one : (b : Bool) → boolByte b ≤ 1
-at-most-one true = omega arith
-at-most-one false = omega arith
+one-or-none : (b : Bool) → boolByte b ≤ 1
+one-or-none true = omega arith
+one-or-none false = omega arith
 
 byte-is : (n : ℕ) → (48 + n) + 7 * boolByte (ltb 9 n) ≡ d.letter n
 byte-is n =
@@ -27,13 +27,13 @@ cast-result : tie.Need-cast-result
 cast-result c = search needs
 
 mul-result : tie.Need-mul-result
-mul-result c = record { fits = omega (arith, at-most-one (ltb 9 (c .args .digit))) }
+mul-result c = record { fits = omega (arith, one-or-none (ltb 9 (c .args .digit))) }
 
 add-result-2 : tie.Need-add-result-2
-add-result-2 c = record { fits = omega (arith, c .pre, at-most-one (ltb 9 (c .args .digit))) }
+add-result-2 c = record { fits = omega (arith, c .pre, one-or-none (ltb 9 (c .args .digit))) }
 
 cast-result-2 : tie.Need-cast-result-2
-cast-result-2 c = record { fits = omega (arith, c .pre, at-most-one (ltb 9 (c .args .digit))) }
+cast-result-2 c = record { fits = omega (arith, c .pre, one-or-none (ltb 9 (c .args .digit))) }
 
 returns : tie.Need-returns
 returns c = byte-is (c .args .digit)

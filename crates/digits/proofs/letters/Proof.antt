@@ -1,6 +1,6 @@
--- Each step of the word stays within it, and the last is the line.
+-- No step leaves 32 bits, and the last is the word of the four letters.
 use native.Mathlib.Omega.{arith}
-use Rattle.digits.proofs.Sums.{bytes-fit, places-fit, raised-fit, line-is}
+use Rattle.digits.proofs.Sums.{bytes-fit, places-fit, raised-fit, word-is}
 use Rattle.digits.proofs.letters.Statement.{statement}
 use Rattle.digits.proofs.letters.Tie as tie
 
@@ -23,7 +23,7 @@ add-result-2 : tie.Need-add-result-2
 add-result-2 c = record { fits = omega (arith, places-fit (c .args .value), raised-fit (c .args .value)) }
 
 returns : tie.Need-returns
-returns c = line-is (c .args .value)
+returns c = word-is (c .args .value)
 
 pub letters-spec : {M : Type 1} → statement M
 letters-spec = tie.close (tie.spec add-bytes add-places add-raised add-result mul-result add-result-2 returns)
