@@ -12,7 +12,7 @@ use std::time::Instant;
 pub const NAME: &str = "printing 8,192 changes";
 /// The word by which this program is started as a frame program in plain Rust, with the twin's calls.
 pub const WITH_TWIN: &str = "--answer-with-twin";
-/// The same, with the engine's calls: then only reading and printing differ from the frame program.
+/// The same, with the engine's calls: little but reading and printing differs from the frame program then.
 pub const WITH_ENGINE: &str = "--answer-with-engine";
 /// A run makes the list of edits so many times.
 const REPEATS: usize = 8;
