@@ -77,7 +77,7 @@ impl Printer {
     }
 
     /// What the edits add to a run, for each of the lines that they print: to nowhere, and over a pipe. The least of all
-    /// rounds counts, for most runs are interrupted somewhere.
+    /// rounds counts: a run is long, and other programs come in between.
     fn of_a_line(&self, lines: usize) -> [f64; 2] {
         let least = |times: &Vec<f64>| times.iter().copied().fold(f64::INFINITY, f64::min);
         let [loaded, edited, loaded_piped, edited_piped] = self.times.each_ref().map(least);
