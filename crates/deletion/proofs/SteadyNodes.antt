@@ -13,6 +13,7 @@ use Rattle.simulation.proofs.Sets.{clash, refuted, and-l, any-take}
 use Rattle.simulation.proofs.Edges.{all-same}
 use Rattle.bits.specs.Word.{members}
 use Rattle.bits.proofs.Words.{zero-members}
+use Rattle.session.specs.Limits.{marksAt}
 use Rattle.session.specs.Trigger.{Trigger, Graph, Marks, nodes, pattern}
 use Rattle.session.specs.Layout.{triggerOf, graphOf, marksOf, inLayout}
 use Rattle.session.proofs.Decoded.{LayoutFacts, layout-facts}
@@ -26,7 +27,7 @@ use Rattle.refinement.proofs.Systems.{sound, same-states, supported-pattern}
 use Rattle.session_parts.proofs.Parts.{held-marks}
 use Rattle.editing.specs.Steps.{markedPairs, backed, steadyAt}
 
-module _ (xs : List ℕ) (h : inLayout xs ≡ true) (ms : List ℕ) (full : ms ≡ take 512 (drop 2611 xs)) (a : ℕ) where
+module _ (xs : List ℕ) (h : inLayout xs ≡ true) (ms : List ℕ) (full : ms ≡ take 512 (drop marksAt xs)) (a : ℕ) where
   abbrev t : Trigger
   t = triggerOf xs
 

@@ -11,6 +11,7 @@ use Rattle.simulation.specs.Pattern.{system}
 use Rattle.simulation.proofs.Sets.{clash, or-r}
 use Rattle.bits.specs.Word.{members}
 use Rattle.bits.proofs.Words.{zero-members}
+use Rattle.session.specs.Limits.{marksAt}
 use Rattle.session.specs.Trigger.{Trigger, Graph, Marks, states, nodes, pattern}
 use Rattle.session.specs.Layout.{triggerOf, graphOf, inLayout}
 use Rattle.session.proofs.Decoded.{LayoutFacts, layout-facts}
@@ -61,7 +62,7 @@ module _ (xs : List ℕ) (h : inLayout xs ≡ true) (links edges : List ℕ) (li
   }
 
   -- the marks are settled, each node with a trial waits
-  pub trials-refined : ss ≡ take 512 (drop 2611 xs) → ((v : ℕ) → (getD ts v 0 ≡ 0 → ⊥) → waits ws v ≡ true)
+  pub trials-refined : ss ≡ take 512 (drop marksAt xs) → ((v : ℕ) → (getD ts v 0 ≡ 0 → ⊥) → waits ws v ≡ true)
       → Holds xs (refined (system (pattern (triggerOf xs) (graphOf xs))) (markedPairs xs) (pairsOf (triggerOf xs) (graphOf xs) (marked ts))) ts'
   trials-refined full all =
       subst (λ (s : Marks). Holds xs (refined (system (pattern t g)) (pairsOf t g s) (pairsOf t g (marked ts))) ts') (ap marked full ∙ held-marks xs h)

@@ -158,9 +158,9 @@ pub passed-rules : (m : Memory) → Passed m → verdict (memoryRules m) ≡ 0
 unfolding verdict
 passed-rules m p =
     rw (
-      le-ltb (length (m .counts)) 19 (p .ready .counts),
-      le-ltb (length (m .words)) 544 (p .ready .words),
-      le-ltb (length (m .session)) 3123 (p .ready .session),
+      le-ltb (length (m .counts)) countsSize (p .ready .counts),
+      le-ltb (length (m .words)) wordsSize (p .ready .words),
+      le-ltb (length (m .session)) fixedSize (p .ready .session),
       le-ltb (length (m .room)) 8192 (p .room),
       le-ltb (length (m .out)) 90125 (p .out),
       le-ltb 1 (getD (m .counts) 0 0) (p .counted .0),

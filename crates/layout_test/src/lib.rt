@@ -3,7 +3,7 @@ ghost use mathlib.Core.Path.{_≡_};
 ghost use mathlib.Core.Bool.{true};
 ghost use Prim.Native.Nat.{_^_, _≤_};
 ghost use lib.ListN.{length};
-ghost use Rattle.session.specs.Limits.{fixedSize, maxEdges, maxNodes, maxStates, wordBits};
+ghost use Rattle.session.specs.Limits.{fixedSize, masksAt, samplesAt, maxEdges, maxNodes, maxStates, wordBits};
 ghost use Rattle.session.specs.Layout.{part, below, inLayout};
 ghost use Rattle.session.specs.Tests.{triggerTest, graphTest, marksTest};
 use section_tests::all_admitted;
@@ -16,8 +16,8 @@ use section_tests::unions_fit;
 // Whether the marks fit. The union of the marks serves both tests.
 pub fn marks_fit(session: &[u32], states: usize, nodes: usize) -> bool
     requires { ⌜ (fixedSize ≤ length (now session)) × (states ≤ maxStates) × (nodes ≤ maxNodes) ⌝ }
-    requires { ⌜ below (2 ^ wordBits) (part (now session) 3 states) ≡ true ⌝ }
-    requires { ⌜ below (2 ^ wordBits) (part (now session) 51 nodes) ≡ true ⌝ }
+    requires { ⌜ below (2 ^ wordBits) (part (now session) masksAt states) ≡ true ⌝ }
+    requires { ⌜ below (2 ^ wordBits) (part (now session) samplesAt nodes) ≡ true ⌝ }
     ensures { λ r. ⌜ r ≡ marksTest (now (session .entry)) states nodes ⌝ }
 {
     let masks_end = session::MASKS_AT + states;

@@ -91,7 +91,7 @@ fn least() -> Sizes {
         nodes: 1,
         starts: 0,
         ends: 0,
-        words: 3123,
+        words: session::FIXED_SIZE,
         places: 8192,
     }
 }
@@ -255,9 +255,13 @@ fn main() {
     joined(b"edges (0, 4294967295) and (0, 0)", 0, 4294967295, 0, 0);
     dense(b"2048 edges", 2048);
     dense(b"2049 edges", 2049);
-    lent(b"memory and room as long as they must be", 3123, 8192);
-    lent(b"memory one word short", 3122, 8192);
-    lent(b"room one place short", 3123, 8191);
+    lent(
+        b"memory and room as long as they must be",
+        session::FIXED_SIZE,
+        8192,
+    );
+    lent(b"memory one word short", session::FIXED_SIZE - 1, 8192);
+    lent(b"room one place short", session::FIXED_SIZE, 8191);
     partial(b"a mask without value and links", 2, 1, 1, 0, 0);
     partial(b"a value without mask and links", 1, 2, 1, 0, 0);
     partial(b"links without mask and value", 1, 1, 2, 0, 0);

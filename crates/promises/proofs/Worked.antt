@@ -99,15 +99,15 @@ given masks links samples starts ends =
 load-verdicts : List ℕ
 load-verdicts =
     verdict (loadRules 3122 8192 (given [] [] [] [] []))
-    ∷ verdict (loadRules 3123 8191 (given [] [] [] [] []))
-    ∷ verdict (loadRules 3123 8192 (given [] (2 ∷ []) [] [] []))
-    ∷ verdict (loadRules 3123 8192 (given (many 17) (131072 ∷ many 16) [] [] []))
-    ∷ verdict (loadRules 3123 8192 (given (0 ∷ []) (2 ∷ []) (many 513) [] []))
-    ∷ verdict (loadRules 3123 8192 (given (0 ∷ []) (1 ∷ []) (many 513) (0 ∷ []) []))
-    ∷ verdict (loadRules 3123 8192 (given (0 ∷ []) (1 ∷ []) (0 ∷ []) (1 ∷ 0 ∷ []) (0 ∷ [])))
-    ∷ verdict (loadRules 3123 8192 (given (0 ∷ []) (1 ∷ []) (0 ∷ []) (0 ∷ 0 ∷ []) (1 ∷ 0 ∷ [])))
-    ∷ verdict (loadRules 3123 8192 (given (0 ∷ []) (1 ∷ []) (0 ∷ 0 ∷ []) (0 ∷ 0 ∷ []) (1 ∷ 0 ∷ [])))
-    ∷ verdict (loadRules 3123 8192 (given (0 ∷ []) (1 ∷ []) (0 ∷ 0 ∷ []) (0 ∷ 0 ∷ []) (0 ∷ 1 ∷ [])))
+    ∷ verdict (loadRules fixedSize 8191 (given [] [] [] [] []))
+    ∷ verdict (loadRules fixedSize 8192 (given [] (2 ∷ []) [] [] []))
+    ∷ verdict (loadRules fixedSize 8192 (given (many 17) (131072 ∷ many 16) [] [] []))
+    ∷ verdict (loadRules fixedSize 8192 (given (0 ∷ []) (2 ∷ []) (many 513) [] []))
+    ∷ verdict (loadRules fixedSize 8192 (given (0 ∷ []) (1 ∷ []) (many 513) (0 ∷ []) []))
+    ∷ verdict (loadRules fixedSize 8192 (given (0 ∷ []) (1 ∷ []) (0 ∷ []) (1 ∷ 0 ∷ []) (0 ∷ [])))
+    ∷ verdict (loadRules fixedSize 8192 (given (0 ∷ []) (1 ∷ []) (0 ∷ []) (0 ∷ 0 ∷ []) (1 ∷ 0 ∷ [])))
+    ∷ verdict (loadRules fixedSize 8192 (given (0 ∷ []) (1 ∷ []) (0 ∷ 0 ∷ []) (0 ∷ 0 ∷ []) (1 ∷ 0 ∷ [])))
+    ∷ verdict (loadRules fixedSize 8192 (given (0 ∷ []) (1 ∷ []) (0 ∷ 0 ∷ []) (0 ∷ 0 ∷ []) (0 ∷ 1 ∷ [])))
     ∷ []
 
 worked-loads : load-verdicts ≡ 3 ∷ 3 ∷ 4 ∷ 4 ∷ 5 ∷ 6 ∷ 7 ∷ 8 ∷ 9 ∷ 0 ∷ []

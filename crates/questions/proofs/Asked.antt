@@ -10,7 +10,7 @@ use borrow.Author.Tests.{ltb-true, lt-ltb, le-ltb, leb-true, le-leb, ne-eqb, not
 use Rattle.simulation.specs.Ordered.{elem}
 use Rattle.simulation.proofs.Sets.{refuted, not-make, and-make, and-l, and-r}
 use Rattle.bits.specs.Word.{members}
-use Rattle.session.specs.Limits.{fixedSize}
+use Rattle.session.specs.Limits.{fixedSize, marksAt}
 use Rattle.session.specs.Trigger.{Trigger, states, nodes, linked}
 use Rattle.session.specs.Layout.{triggerOf, graphOf, marksOf, inLayout}
 use Rattle.session.proofs.Decoded.{layout-facts, layout-limits}
@@ -111,7 +111,7 @@ module _ (broken n : ℕ) (e : broken ≡ n) (ys : List ℕ) where
 -- ---- the marks that are held
 
 module _ (xs : List ℕ) where
-  pub mark-held : (u v : ℕ) → u < getD xs 0 0 → v < getD xs 1 0 → members (getD xs (2611 + v) 0) u ≡ marksOf xs u v
+  pub mark-held : (u v : ℕ) → u < getD xs 0 0 → v < getD xs 1 0 → members (getD xs (marksAt + v) 0) u ≡ marksOf xs u v
   unfolding marksOf
   mark-held u v l k = rw (lt-ltb u (getD xs 0 0) l, lt-ltb v (getD xs 1 0) k)
 

@@ -1,4 +1,5 @@
 -- What the report of a call reads from a session in layout: firing, and the change list.
+use Rattle.session.specs.Limits.{marksAt}
 use Rattle.session.proofs.Tables.{part-from}
 use Prim.Native.Nat.{ℕ, _+_, _-_, _≤_}
 use native.Mathlib.Nat.{mul-le-mul-left}
@@ -66,11 +67,11 @@ module _ (xs : List ℕ) (h : inLayout xs ≡ true) where
       )
 
   -- firing, as the mark words of the nodes tell it
-  pub held-firing : (let marks = take (2611 + getD xs 1 0 - 2611) (drop 2611 xs) in
+  pub held-firing : (let marks = take (marksAt + getD xs 1 0 - marksAt) (drop marksAt xs) in
       allBelow (getD xs 0 0) (λ u. anyBelow (length marks) (λ v. members (getD marks v 0) u)))
       ≡ fires (triggerOf xs) (graphOf xs) (marksOf xs)
   held-firing =
       ap (λ (ws : List ℕ). allBelow (getD xs 0 0) (λ u. anyBelow (length ws) (λ v. members (getD ws v 0) u)))
-      (part-from xs 2611 (getD xs 1 0) ∙ sym (take-take (getD xs 1 0) 512 (drop 2611 xs) (layout-limits xs h .few-nodes)))
-      ∙ held-fires (take 512 (drop 2611 xs)) (omega (arith, length-take 512 (drop 2611 xs), length-drop 2611 xs, layout-limits xs h))
+      (part-from xs marksAt (getD xs 1 0) ∙ sym (take-take (getD xs 1 0) 512 (drop marksAt xs) (layout-limits xs h .few-nodes)))
+      ∙ held-fires (take 512 (drop marksAt xs)) (omega (arith, length-take 512 (drop marksAt xs), length-drop marksAt xs, layout-limits xs h))
       ∙ ap (fires t g) (held-marks xs h)

@@ -17,7 +17,7 @@ use Rattle.simulation.proofs.Pattern.{state-inside, meets-take}
 use Rattle.simulation.proofs.Ordered.{elem-index}
 use Rattle.simulation.proofs.Edges.{elem-joins}
 use Rattle.bits.specs.Word.{members, overlaps}
-use Rattle.session.specs.Limits.{maxNodes}
+use Rattle.session.specs.Limits.{maxNodes, marksAt}
 use Rattle.session.specs.Trigger.{Trigger, Graph, Marks, states, nodes, linked, admits, agrees, edge, pattern}
 use Rattle.session.specs.Layout.{triggerOf, graphOf, marksOf, inLayout}
 use Rattle.session.proofs.Decoded.{LayoutFacts, layout-facts}
@@ -45,7 +45,7 @@ module _ (xs : List ℕ) (h : inLayout xs ≡ true) where
   -- ---- the states of a word that are fresh at a node, as the words there tell them
 
   pub fresh-met : (masks values samples ms : List ℕ) → masks ≡ triggerOf xs .masks → values ≡ triggerOf xs .values → samples ≡ graphOf xs .samples
-      → ms ≡ take 512 (drop 2611 xs) → (word v able new : ℕ)
+      → ms ≡ take 512 (drop marksAt xs) → (word v able new : ℕ)
       → members able ≡ (λ u. ltb u (length masks) && agrees 16 (getD masks u 0) (getD values u 0) (getD samples v 0))
       → members new ≡ minus (members able) (members (getD ms v 0)) → overlaps word new ≡ freshAmong xs word v
   unfolding admits

@@ -18,7 +18,7 @@ use Rattle.simulation.proofs.System.{extensional, closure-seed, closure-step, c
 use Rattle.simulation.proofs.Pattern.{pair-inside, paired-pair, node-inside, state-inside}
 use Rattle.bits.specs.Word.{members}
 use Rattle.bits.proofs.Words.{zero-members, and-members}
-use Rattle.session.specs.Limits.{wordBits}
+use Rattle.session.specs.Limits.{wordBits, marksAt}
 use Rattle.session.specs.Trigger.{Trigger, Graph, Marks, states, nodes, linked, admits, agrees, pattern}
 use Rattle.session.specs.Layout.{triggerOf, graphOf, marksOf, inLayout}
 use Rattle.session.proofs.Decoded.{LayoutFacts, layout-facts}
@@ -48,7 +48,7 @@ module _ (xs : List ℕ) (h : inLayout xs ≡ true) where
 
   module _ (masks values samples : List ℕ) (masks-is : masks ≡ triggerOf xs .masks) (values-is : values ≡ triggerOf xs .values)
       (samples-is : samples ≡ graphOf xs .samples) (r : ℕ) (ts : List ℕ) (admitted : Admitted masks values samples r ts)
-      (fs : List ℕ) (long : length fs ≡ length ts) (less : (u v : ℕ) → marked fs u v ≡ (marked ts u v && not (marked (take 512 (drop 2611 xs)) u v))) where
+      (fs : List ℕ) (long : length fs ≡ length ts) (less : (u v : ℕ) → marked fs u v ≡ (marked ts u v && not (marked (take 512 (drop marksAt xs)) u v))) where
     here : Admitted (triggerOf xs .masks) (triggerOf xs .values) (graphOf xs .samples) r ts
     here = rw (masks-is, values-is, samples-is) at admitted
 
@@ -87,7 +87,7 @@ module _ (xs : List ℕ) (h : inLayout xs ≡ true) where
   -- ---- the seeds, as the words of the edge's ends tell them
 
   module _ (a b : ℕ) (masks values samples links ms : List ℕ) (masks-is : masks ≡ triggerOf xs .masks) (values-is : values ≡ triggerOf xs .values)
-      (samples-is : samples ≡ graphOf xs .samples) (links-is : links ≡ triggerOf xs .links) (ms-is : ms ≡ take 512 (drop 2611 xs))
+      (samples-is : samples ≡ graphOf xs .samples) (links-is : links ≡ triggerOf xs .links) (ms-is : ms ≡ take 512 (drop marksAt xs))
       (at-end able at-start new : ℕ)
       (end-is : members at-end ≡ (λ u. ltb u (length masks) && agrees 16 (getD masks u 0) (getD values u 0) (getD samples b 0)))
       (able-is : members able ≡ linksTo links at-end)

@@ -1,5 +1,6 @@
 -- `graph_fits` meets its contract: each test is made where those before it hold.
 use Prim.Native.Nat.{_+_, _-_}
+use Rattle.session.specs.Limits.{edgesAt, marksAt}
 use Rattle.session.specs.Layout.{part, below}
 use Rattle.session.specs.Tests.{graphTest}
 use Rattle.simulation.specs.Ordered.{ascends}
@@ -12,15 +13,15 @@ use Rattle.layout_test.proofs.graph_fits.Tie as tie
 -- the parts of the edges, by their lengths
 rest : (c : tie.After-all-zero)
     → let a = c .before .before .before .before .before .before .args in
-    c .all-zero .result ≡ below 1 (part (a .session .now) (563 + a .edges) (2048 - a .edges))
+    c .all-zero .result ≡ below 1 (part (a .session .now) (edgesAt + a .edges) (2048 - a .edges))
 rest c =
     let a = c .before .before .before .before .before .before .args in
-    rw (sub-add-eq 2611 563 (a .edges)) at (c .all-zero .ensures)
+    rw (sub-add-eq marksAt edgesAt (a .edges)) at (c .all-zero .ensures)
 
-rises : (c : tie.After-all-ascend) → let a = c .before .before .before .before .before .before .before .before .before .args in c .all-ascend .result ≡ ascends (part (a .session .now) 563 (a .edges))
+rises : (c : tie.After-all-ascend) → let a = c .before .before .before .before .before .before .before .before .before .args in c .all-ascend .result ≡ ascends (part (a .session .now) edgesAt (a .edges))
 rises c =
     let a = c .before .before .before .before .before .before .before .before .before .args in
-    rw (add-sub-cancel-left 563 (a .edges)) at (c .all-ascend .ensures)
+    rw (add-sub-cancel-left edgesAt (a .edges)) at (c .all-ascend .ensures)
 
 add-end : tie.Need-add-end
 add-end c = search needs
@@ -87,7 +88,7 @@ returns c =
     let one = two .before .before .before in
     let a = one .before .before .before .before .args in
     rw (← one .before .section-fits .ensures, one .if1 .taken, ← rest (two .before), two .if2 .taken, ← rises (three .before), three .if3 .taken)
-    (rw (add-sub-cancel-left 563 (a .edges)) at (c .all-named .ensures))
+    (rw (add-sub-cancel-left edgesAt (a .edges)) at (c .all-named .ensures))
 
 returns-2 : tie.Need-returns-2
 unfolding graphTest

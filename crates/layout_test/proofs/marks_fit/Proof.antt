@@ -3,7 +3,7 @@ use borrow.Author.Needs.{needs}
 use native.Mathlib.Nat.{add-sub-cancel-left}
 use native.Mathlib.Omega.{arith}
 use mathlib.Core.Path.{_≡_, sym, _∙_}
-use Rattle.session.specs.Limits.{maxNodes, marksAt}
+use Rattle.session.specs.Limits.{maxNodes, marksAt, masksAt, valuesAt, samplesAt}
 use Rattle.session.specs.Layout.{part}
 use Rattle.session.specs.Tests.{fits, marksTest}
 use Rattle.layout_test.proofs.Tested.{part-length, test-marks, fits-unions}
@@ -64,7 +64,7 @@ whole c =
     let used = c .before .before .before .gathered in
     let unused = c .before .gathered2 in
     c .unions-fit .ensures
-    ∙ fits-unions (s .args .session .now) 2611 512 (s .args .nodes) (omega arith) (omega arith) (s .args .states) (used .result) (unused .result)
+    ∙ fits-unions (s .args .session .now) marksAt 512 (s .args .nodes) (omega arith) (omega arith) (s .args .states) (used .result) (unused .result)
     (search needs) (used .ensures) (unused .ensures)
 
 sub-all-admitted : tie.Need-sub-all-admitted
@@ -113,14 +113,14 @@ all-admitted-requires c κs =
     let xs = s .args .session .now in
     let small = test-marks xs n m (sym (whole (one .before)) ∙ one .if1 .taken) (omega arith) (omega arith) (omega arith) in (
       (
-        simp add-sub-cancel-left (part-length xs 51 m (omega arith) ∙ sym (part-length xs 2611 m (omega arith))),
-        simp add-sub-cancel-left (part-length xs 19 n (omega arith) ∙ sym (part-length xs 3 n (omega arith))),
-        simp add-sub-cancel-left (omega (arith, part-length xs 3 n (omega arith))),
+        simp add-sub-cancel-left (part-length xs samplesAt m (omega arith) ∙ sym (part-length xs marksAt m (omega arith))),
+        simp add-sub-cancel-left (part-length xs valuesAt n (omega arith) ∙ sym (part-length xs masksAt n (omega arith))),
+        simp add-sub-cancel-left (omega (arith, part-length xs masksAt n (omega arith))),
       ),
       (
         simp add-sub-cancel-left (s .pre .1 .0),
         (
-          (simp add-sub-cancel-left (s .pre .1 .1), simp add-sub-cancel-left small, simp add-sub-cancel-left (omega (arith, part-length xs 2611 m (omega arith)))),
+          (simp add-sub-cancel-left (s .pre .1 .1), simp add-sub-cancel-left small, simp add-sub-cancel-left (omega (arith, part-length xs marksAt m (omega arith)))),
           simp add-sub-cancel-left (simp add-sub-cancel-left at (g .gathered .ensures)),
         ),
       ),
@@ -132,7 +132,7 @@ returns c =
     let one = c .before .before .before .before .before in
     let s = one .before .before .before .before .before .before .before in
     rw (← whole (one .before), one .if1 .taken)
-    (simp (add-sub-cancel-left, part-length (s .args .session .now) 3 (s .args .states) (omega arith)) at (c .all-admitted .ensures))
+    (simp (add-sub-cancel-left, part-length (s .args .session .now) masksAt (s .args .states) (omega arith)) at (c .all-admitted .ensures))
 
 returns-2 : tie.Need-returns-2
 unfolding marksTest

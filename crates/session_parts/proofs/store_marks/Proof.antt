@@ -2,6 +2,7 @@
 use borrow.Author.Needs.{needs}
 use native.Mathlib.Omega.{arith}
 use lib.ListN.{drop}
+use Rattle.session.specs.Limits.{fixedSize}
 use Rattle.session.proofs.Decoded.{layout-limits, layout-whole}
 use Rattle.session.proofs.Stores.{put-marks}
 use Rattle.session_parts.proofs.store_marks.Statement.{statement}
@@ -26,7 +27,7 @@ returns : tie.Need-returns
 returns c =
     let s = c .before .before .before .before .before .before in
     let xs = s .args .session .now in
-    put-marks _ _ _ xs (drop 3123 xs) (s .args .table .now) _ (layout-whole xs (s .pre .0)) (s .pre .1) (s .pre .2)
+    put-marks _ _ _ xs (drop fixedSize xs) (s .args .table .now) _ (layout-whole xs (s .pre .0)) (s .pre .1) (s .pre .2)
     (c .before .before .copy-words .ensures)
 
 pub store-marks-spec : {M : Type 1} → statement M

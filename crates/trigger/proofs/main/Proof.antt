@@ -5,6 +5,8 @@ use native.Mathlib.Omega.{arith}
 use mathlib.Core.Path.{refl}
 use lib.IntN.{pos}
 use lib.ListN.{length-replicate}
+use Rattle.frames.specs.Machine.{countsSize, wordsSize}
+use Rattle.session.specs.Limits.{fixedSize}
 use Rattle.trigger.proofs.main.Statement.{statement}
 use Rattle.trigger.proofs.main.Tie as tie
 
@@ -35,9 +37,9 @@ slice-aggregate-answer-input-7 c = search needs
 answer-input-requires : tie.Need-answer-input-requires
 answer-input-requires c κs = (
   record {
-    counts = omega (arith, length-replicate {A = ℕ} 19 0);
-    words = omega (arith, length-replicate {A = ℕ} 544 0);
-    session = omega (arith, length-replicate {A = ℕ} 3123 0);
+    counts = omega (arith, length-replicate {A = ℕ} countsSize 0);
+    words = omega (arith, length-replicate {A = ℕ} wordsSize 0);
+    session = omega (arith, length-replicate {A = ℕ} fixedSize 0);
     moment = refl;
     states = refl;
     nodes = refl;

@@ -6,6 +6,7 @@ use lib.ListN.{getD}
 use Prim.Native.Nat.{_+_, _-_}
 use Rattle.simulation.specs.Ordered.{elem}
 use Rattle.simulation.proofs.Ordered.{rising-make}
+use Rattle.session.specs.Limits.{edgesAt}
 use Rattle.session.specs.Trigger.{edgeNumber}
 use Rattle.session.specs.Layout.{graphOf}
 use Rattle.edges.proofs.Stored.{Held, held, edges-part, edge-elem}
@@ -44,7 +45,7 @@ has-edge-requires : tie.Need-has-edge-requires
 has-edge-requires c κs =
     let s = c .before .before .before in
     let xs = s .args .session .now in
-    rw (edges-part xs (563 + getD xs 2 0 - 563) (omega arith)) (rising-make (graphOf xs .edges) (holds s .rising))
+    rw (edges-part xs (edgesAt + getD xs 2 0 - edgesAt) (omega arith)) (rising-make (graphOf xs .edges) (holds s .rising))
 
 returns : tie.Need-returns
 returns c =
@@ -52,7 +53,7 @@ returns c =
     let a = s .args in
     let xs = a .session .now in
     c .has-edge .ensures
-    ∙ ap (elem (edgeNumber (a .start) (a .end))) (edges-part xs (563 + getD xs 2 0 - 563) (omega arith))
+    ∙ ap (elem (edgeNumber (a .start) (a .end))) (edges-part xs (edgesAt + getD xs 2 0 - edgesAt) (omega arith))
     ∙ sym (edge-elem (graphOf xs) (a .start) (a .end) (omega (arith, holds s .few-nodes)))
 
 pub edge-in-spec : {M : Type 1} → statement M

@@ -4,6 +4,7 @@ use native.Mathlib.Omega.{arith}
 use Prim.Native.Nat.{_+_, _-_, _≤_}
 use lib.ListN.{length, getD}
 use Rattle.simulation.proofs.Ordered.{rising-make}
+use Rattle.session.specs.Limits.{edgesAt}
 use Rattle.session.specs.Layout.{graphOf}
 use Rattle.edges.proofs.Stored.{Held, held, part-size, edges-front, before-part, insert-stored}
 use Rattle.edges.proofs.held.insert_edge.Statement.{statement}
@@ -44,9 +45,9 @@ put-edge-requires : tie.Need-put-edge-requires
 put-edge-requires c κs =
     let s = c .before .before .before in
     let xs = s .args .session .now in
-    let k = 564 + getD xs 2 0 - 563 in
+    let k = edgesAt + 1 + getD xs 2 0 - edgesAt in
     let f = holds s in
-    let room : 563 + k ≤ length xs = omega (arith, f .long, f .few-edges) in
+    let room : edgesAt + k ≤ length xs = omega (arith, f .long, f .few-edges) in
     (omega (arith, part-size xs k room), rw (edges-front xs k (omega arith) room) (rising-make (graphOf xs .edges) (f .rising)))
 
 add-session : tie.Need-add-session
@@ -56,7 +57,7 @@ slice-write-session : tie.Need-slice-write-session
 slice-write-session c =
     let s = c .before .before .before .before .before .before in
     let xs = s .args .session .now in
-    omega (arith, holds s .long, before-part 563 (564 + getD xs 2 0 - 563) xs (c .before .before .put-edge .last .0) (omega (arith, holds s .long)))
+    omega (arith, holds s .long, before-part edgesAt (edgesAt + 1 + getD xs 2 0 - edgesAt) xs (c .before .before .put-edge .last .0) (omega (arith, holds s .long)))
 
 same-length : tie.Need-same-length
 same-length c = search needs
@@ -66,7 +67,7 @@ returns c =
     let s = c .before .before .before .before .before .before in
     let xs = s .args .session .now in
     let put = c .before .before .put-edge in
-    insert-stored xs (s .pre .0) (s .args .start) (s .args .end) (put .last .0) (564 + getD xs 2 0 - 563) _ (omega arith) (omega arith)
+    insert-stored xs (s .pre .0) (s .args .start) (s .args .end) (put .last .0) (edgesAt + 1 + getD xs 2 0 - edgesAt) _ (omega arith) (omega arith)
     (omega (arith, holds s .count)) (put .ensures)
 
 pub insert-edge-spec : {M : Type 1} → statement M

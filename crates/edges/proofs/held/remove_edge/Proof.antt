@@ -7,6 +7,7 @@ use Prim.Native.Nat.{_+_, _-_, _<_}
 use lib.ListN.{getD}
 use Rattle.simulation.specs.Ordered.{elem}
 use Rattle.simulation.proofs.Ordered.{rising-make, elem-index}
+use Rattle.session.specs.Limits.{edgesAt}
 use Rattle.session.specs.Trigger.{nodes, edgeNumber}
 use Rattle.session.specs.Layout.{graphOf}
 use Rattle.session.proofs.Valid.{edge-inside}
@@ -58,7 +59,7 @@ drop-edge-requires : tie.Need-drop-edge-requires
 drop-edge-requires c κs =
     let s = c .before .before .before in
     let xs = s .args .session .now in
-    rw (edges-part xs (563 + getD xs 2 0 - 563) (omega arith)) (rising-make (graphOf xs .edges) (holds s .rising), there s)
+    rw (edges-part xs (edgesAt + getD xs 2 0 - edgesAt) (omega arith)) (rising-make (graphOf xs .edges) (holds s .rising), there s)
 
 sub-session : tie.Need-sub-session
 sub-session c =
@@ -70,7 +71,7 @@ slice-write-session : tie.Need-slice-write-session
 slice-write-session c =
     let s = c .before .before .before .before .before .before in
     let xs = s .args .session .now in
-    omega (arith, holds s .long, before-part 563 (563 + getD xs 2 0 - 563) xs (c .before .before .drop-edge .last .0) (omega (arith, holds s .long)))
+    omega (arith, holds s .long, before-part edgesAt (edgesAt + getD xs 2 0 - edgesAt) xs (c .before .before .drop-edge .last .0) (omega (arith, holds s .long)))
 
 same-length : tie.Need-same-length
 same-length c = search needs
@@ -80,7 +81,7 @@ returns c =
     let s = c .before .before .before .before .before .before in
     let xs = s .args .session .now in
     let drop = c .before .before .drop-edge in
-    remove-stored xs (s .pre .0) (s .args .start) (s .args .end) (drop .last .0) (563 + getD xs 2 0 - 563) _ (omega arith) (omega arith) (there s)
+    remove-stored xs (s .pre .0) (s .args .start) (s .args .end) (drop .last .0) (edgesAt + getD xs 2 0 - edgesAt) _ (omega arith) (omega arith) (there s)
     (drop .ensures)
 
 pub remove-edge-spec : {M : Type 1} → statement M
