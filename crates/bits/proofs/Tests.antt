@@ -1,12 +1,12 @@
 -- What a comparison of words says of their members: no member, a subset, the same bits under a mask.
-use Prim.Native.Nat.{ℕ, _^_, _<_, _≤_}
+use Prim.Native.Nat.{ℕ, _-_, _^_, _%_, _<_, _≤_}
 use native.Mathlib.Omega.{arith}
-use native.Mathlib.Nat.{lt-of-le-of-lt}
-use mathlib.Core.Path.{_≡_, refl, sym, ap, ap₂, fun-ext, _∙_}
+use native.Mathlib.Nat.{lt-of-le-of-lt, mod-lt, mod-eq-of-lt}
+use mathlib.Core.Path.{_≡_, refl, sym, ap, ap₂, subst, fun-ext, _∙_}
 use mathlib.Core.Bool.{Bool, true, false, not, _&&_, _||_, Bool·beq, Bool·not-not, cond, and-false}
 use lib.Dec.{ltb, eqb}
 use lib.Pow.{pow-pos}
-use lib.Bits.{bitAnd, bitXor, and-le-l, and-le-r}
+use lib.Bits.{bitAnd, bitXor, and-le-l, and-le-r, and-mask}
 use borrow.Author.Tests.{ltb-true, lt-ltb, eqb-true, eq-eqb}
 use Rattle.simulation.specs.Sets.{Set, anyBelow, allBelow}
 use Rattle.simulation.proofs.Sets.{same, implies-make, implies-take, all-make, all-take, not-any}
@@ -72,6 +72,15 @@ unfolding within
 subset-within k a b h =
     equal-all k (bitAnd a b) a (λ i. not (members a i) || members b i) (lt-of-le-of-lt (and-le-l a b) h) h
     (λ i. ap (λ (t : Bool). Bool·beq t (members a i)) (and-members a b i) ∙ part (members a i) (members b i))
+
+-- a word has n bits where each member is below n
+pub within-inside : (k n w : ℕ) → w < 2 ^ k → within k w (2 ^ n - 1) ≡ ltb w (2 ^ n)
+within-inside k n w h =
+    sym (subset-within k w (2 ^ n - 1) h)
+    ∙ ap (λ (x : ℕ). eqb x w) (and-mask w n)
+    ∙ same (eqb (w % 2 ^ n) w) (ltb w (2 ^ n))
+    (λ (e : eqb (w % 2 ^ n) w ≡ true). lt-ltb w (2 ^ n) (subst (λ (x : ℕ). x < 2 ^ n) (eqb-true (w % 2 ^ n) w e) (mod-lt w (pow-pos n))))
+    (λ (e : ltb w (2 ^ n) ≡ true). eq-eqb (w % 2 ^ n) w (mod-eq-of-lt (ltb-true w (2 ^ n) e)))
 
 -- ---- the same bits where m has a 1: (v ^ s) & m is zero
 

@@ -1,13 +1,12 @@
 // Sets of the numbers 0 to 31, each held in a word: bit i is 1 where i is a member.
 ghost use mathlib.Core.Path.{_≡_};
-ghost use mathlib.Core.Bool.{true, false, not, Bool·beq, cond};
-ghost use Prim.Native.Nat.{ℕ, _-_, _^_, _<_, _≤_};
+ghost use mathlib.Core.Bool.{Bool, true, false, not, Bool·beq, cond};
+ghost use Prim.Native.Nat.{ℕ, _-_, _^_, _%_, _<_, _≤_};
 ghost use lib.Bits.{bitAnd};
 ghost use lib.Dec.{ltb, eqb};
 ghost use lib.ListN.{length, getD};
 ghost use Rattle.simulation.specs.Sets.{also, without, union, minus, anyBelow, count};
 ghost use Rattle.bits.specs.Word.{members, within, overlaps};
-ghost use Rattle.bits.specs.Word.{members, within};
 
 // Whether i is a member.
 pub fn has(word: u32, i: u32) -> bool
@@ -124,6 +123,22 @@ pub fn below(n: u32) -> u32
     ((1u64 << n) - 1) as u32
 }
 
+// Whether each member is below n.
+pub fn inside(word: u32, n: u32) -> bool
+    requires { ⌜ n ≤ 32 ⌝ }
+    ensures { λ r. ⌜ r ≡ ltb word (2 ^ n) ⌝ }
+{
+    subset(word, below(n))
+}
+
+// The members below n.
+pub fn kept_below(word: u32, n: u32) -> u32
+    requires { ⌜ n ≤ 32 ⌝ }
+    ensures { λ r. ⌜ r ≡ word % 2 ^ n ⌝ }
+{
+    word & below(n)
+}
+
 // The members of all the words.
 pub fn gathered(words: &[u32]) -> u32
     ensures { λ r. ⌜ members r ≡ (λ i. anyBelow (length (now (words .entry))) (λ k. members (getD (now (words .entry)) k 0) i)) ⌝ }
@@ -148,4 +163,22 @@ pub fn picked_half(word: u16, test: bool) -> u16
     ensures { λ r. ⌜ r ≡ cond test word 0 ⌝ }
 {
     if test { word } else { 0 }
+}
+
+// Every bit, for a turn.
+pub const ALL: u32 = 4294967295;
+
+pub const ALL_HALF: u16 = 65535;
+
+// The word where the test holds; where it does not, if the turn is every bit and not none. The turn is one operation, and there is no branch.
+pub fn chosen(word: u32, test: bool, turn: u32) -> u32
+    ensures { λ r. ⌜ ((b : Bool) → turn ≡ cond b (2 ^ 32 - 1) 0 → r ≡ cond (cond b (not test) test) word 0) ⌝ }
+{
+    word & (picked(ALL, test) ^ turn)
+}
+
+pub fn chosen_half(word: u16, test: bool, turn: u16) -> u16
+    ensures { λ r. ⌜ ((b : Bool) → turn ≡ cond b (2 ^ 16 - 1) 0 → r ≡ cond (cond b (not test) test) word 0) ⌝ }
+{
+    word & (picked_half(ALL_HALF, test) ^ turn)
 }

@@ -1,4 +1,4 @@
--- 01, "The marked cases are gathered as rows of one list with one proved fact over all rows": the rows, and the fact. It is proved in proofs/Worked.
+-- 01, "The marked cases are gathered as rows of one list with one proved fact over all rows": the rows, those of 02 with them, and the fact. It is proved in proofs/Worked.
 use Prim.Native.Nat.{ℕ, _/_, _%_, _≤_}
 use mathlib.Core.Path.{_≡_}
 use mathlib.Core.Bool.{Bool, true, false}
@@ -91,7 +91,7 @@ pub data Every (P : Case → Type 0) : List Case → Type 0 where
 unfoldable pub session : Case
 session =
     row
-    (given (0xFFFF ∷ 0xFFFF ∷ []) (1 ∷ 2 ∷ []) (2 ∷ 1 ∷ []) (1 ∷ 2 ∷ []) [] [])
+    (given (0xFFFF ∷ 0xFFFF ∷ []) (1 ∷ 2 ∷ []) (2 ∷ 1 ∷ []) 0 (1 ∷ 2 ∷ []) [] [])
     (edit insertion 0 1 ∷ edit insertion 1 0 ∷ edit insertion 1 0 ∷ edit deletion 0 1 ∷ order ∷ [])
     (report false 2 []
     ∷ report false 1 []
@@ -105,7 +105,7 @@ session =
 unfoldable pub alone : Case
 alone =
     row
-    (given (0xFFFF ∷ []) (1 ∷ []) (0 ∷ []) (1 ∷ []) [] [])
+    (given (0xFFFF ∷ []) (1 ∷ []) (0 ∷ []) 0 (1 ∷ []) [] [])
     (standing 1 0 ∷ firing ∷ [])
     (report true 1 (pos 1 ∷ []) ∷ says true ∷ says true ∷ [])
 
@@ -113,7 +113,7 @@ alone =
 unfoldable pub nowhere : Case
 nowhere =
     row
-    (given (0xFFFF ∷ []) (1 ∷ []) (0 ∷ []) [] [] [])
+    (given (0xFFFF ∷ []) (1 ∷ []) (0 ∷ []) 0 [] [] [])
     (firing ∷ [])
     (report false 0 [] ∷ says false ∷ [])
 
@@ -121,7 +121,7 @@ nowhere =
 unfoldable pub loop : Case
 loop =
     row
-    (given (0xFFFF ∷ []) (1 ∷ []) (1 ∷ []) (1 ∷ []) [] [])
+    (given (0xFFFF ∷ []) (1 ∷ []) (1 ∷ []) 0 (1 ∷ []) [] [])
     (edit insertion 0 0 ∷ [])
     (report false 1 [] ∷ report true 1 (pos 1 ∷ []) ∷ [])
 
@@ -129,7 +129,7 @@ loop =
 unfoldable pub ring : Case
 ring =
     row
-    (given (0xFFFF ∷ []) (1 ∷ []) (1 ∷ []) (1 ∷ 1 ∷ []) (0 ∷ 1 ∷ []) (1 ∷ 0 ∷ []))
+    (given (0xFFFF ∷ []) (1 ∷ []) (1 ∷ []) 0 (1 ∷ 1 ∷ []) (0 ∷ 1 ∷ []) (1 ∷ 0 ∷ []))
     (edit deletion 0 1 ∷ [])
     (report true 2 (pos 1 ∷ pos 65 ∷ []) ∷ report false 2 (negℤ (pos 1) ∷ negℤ (pos 65) ∷ []) ∷ [])
 
@@ -138,7 +138,7 @@ ring =
 unfoldable pub spare : Case
 spare =
     row
-    (given (0xFFFF ∷ 0xFFFF ∷ []) (1 ∷ 2 ∷ []) (2 ∷ 0 ∷ []) (1 ∷ 2 ∷ 2 ∷ []) (0 ∷ 0 ∷ []) (1 ∷ 2 ∷ []))
+    (given (0xFFFF ∷ 0xFFFF ∷ []) (1 ∷ 2 ∷ []) (2 ∷ 0 ∷ []) 0 (1 ∷ 2 ∷ 2 ∷ []) (0 ∷ 0 ∷ []) (1 ∷ 2 ∷ []))
     (edit deletion 0 1 ∷ [])
     (report true 3 (pos 1 ∷ pos 66 ∷ pos 130 ∷ []) ∷ report true 0 [] ∷ [])
 
@@ -146,7 +146,7 @@ spare =
 unfoldable pub unmasked : Case
 unmasked =
     row
-    (given (0 ∷ []) (0xFF ∷ []) (0 ∷ []) (0 ∷ 0xFFFF ∷ []) [] [])
+    (given (0 ∷ []) (0xFF ∷ []) (0 ∷ []) 0 (0 ∷ 0xFFFF ∷ []) [] [])
     []
     (report true 2 (pos 1 ∷ pos 65 ∷ []) ∷ [])
 
@@ -154,7 +154,7 @@ unmasked =
 unfoldable pub full : Case
 full =
     row
-    (given (0xFFFF ∷ []) (1 ∷ []) (0 ∷ []) (table maxNodes (λ v. 0)) (table maxEdges (λ k. k / maxNodes)) (table maxEdges (λ k. k % maxNodes)))
+    (given (0xFFFF ∷ []) (1 ∷ []) (0 ∷ []) 0 (table maxNodes (λ v. 0)) (table maxEdges (λ k. k / maxNodes)) (table maxEdges (λ k. k % maxNodes)))
     (edit insertion 4 0 ∷ edit insertion 0 0 ∷ [])
     (report false 0 [] ∷ refusal 13 ∷ refusal 12 ∷ [])
 
@@ -162,10 +162,34 @@ full =
 unfoldable pub half : Case
 half =
     row
-    (given (0xFFFF ∷ 0xFFFF ∷ []) (1 ∷ 2 ∷ []) (0 ∷ 0 ∷ []) (1 ∷ []) [] [])
+    (given (0xFFFF ∷ 0xFFFF ∷ []) (1 ∷ 2 ∷ []) (0 ∷ 0 ∷ []) 0 (1 ∷ []) [] [])
     (standing 1 0 ∷ firing ∷ [])
     (report false 1 (pos 1 ∷ []) ∷ says true ∷ says false ∷ [])
 
--- the session and the cases that 01 marks
+-- 02, Job 1, "Users hunt for anything but the idle word": an inverted state stands at each node but the idle ones
+unfoldable pub hunted : Case
+hunted =
+    row
+    (given (0xFFFF ∷ []) (0 ∷ []) (0 ∷ []) 1 (0 ∷ 0xA5 ∷ 0xFFFF ∷ 0 ∷ []) [] [])
+    (standing 1 0 ∷ standing 1 1 ∷ firing ∷ [])
+    (report true 2 (pos 65 ∷ pos 129 ∷ []) ∷ says false ∷ says true ∷ says true ∷ [])
+
+-- an inverted state and a plain one linked to each other: one edge closes the ring, and one opens it
+unfoldable pub turned : Case
+turned =
+    row
+    (given (0xFFFF ∷ 0xFFFF ∷ []) (0 ∷ 0 ∷ []) (2 ∷ 1 ∷ []) 1 (0xA5 ∷ 0 ∷ []) [] [])
+    (edit insertion 0 1 ∷ edit insertion 1 0 ∷ edit deletion 0 1 ∷ [])
+    (report false 2 [] ∷ report false 1 [] ∷ report true 2 (pos 1 ∷ pos 66 ∷ []) ∷ report false 2 (negℤ (pos 1) ∷ negℤ (pos 66) ∷ []) ∷ [])
+
+-- "it then admits exactly the nodes that its plain form does not": with a mask of zero, none
+unfoldable pub blank : Case
+blank =
+    row
+    (given (0 ∷ []) (0xFF ∷ []) (0 ∷ []) 1 (0 ∷ 0xFFFF ∷ []) [] [])
+    (firing ∷ [])
+    (report false 0 [] ∷ says false ∷ [])
+
+-- the session and the cases that 01 marks, and those of the requests
 unfoldable pub cases : List Case
-cases = session ∷ alone ∷ nowhere ∷ loop ∷ ring ∷ spare ∷ unmasked ∷ full ∷ half ∷ []
+cases = session ∷ alone ∷ nowhere ∷ loop ∷ ring ∷ spare ∷ unmasked ∷ full ∷ half ∷ hunted ∷ turned ∷ blank ∷ []

@@ -46,7 +46,7 @@ section-over n es es' ps hidden room h =
     rest = drop (length ps) (section n es)
 
 module _ (t : Trigger) (g : Graph) (m : Marks) (rest : List ℕ) where
-  -- what stands between the counts and the edges
+  -- what stands between the counts, the inverted states with them, and the edges
   abbrev middle : List ℕ
   middle = section maxStates (t .masks) ++ section maxStates (t .values) ++ section maxStates (t .links) ++ section maxNodes (g .samples)
 
@@ -54,7 +54,7 @@ module _ (t : Trigger) (g : Graph) (m : Marks) (rest : List ℕ) where
   marks = table maxNodes (markWord t g m) ++ rest
 
   abbrev begun : ℕ → List ℕ
-  begun n = states t ∷ nodes g ∷ n ∷ middle
+  begun n = states t ∷ nodes g ∷ n ∷ t .inverted ∷ middle
 
   around : (es : List ℕ) → image t (record { samples = g .samples; edges = es }) m ++ rest ≡ begun (length es) ++ (section maxEdges es ++ marks)
   unfolding image markWord

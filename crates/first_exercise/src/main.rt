@@ -104,6 +104,7 @@ fn main() {
         &masks,
         &values,
         &links,
+        0,
         &samples,
         &starts[..0],
         &ends[..0],

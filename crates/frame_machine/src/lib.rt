@@ -11,7 +11,7 @@ use frames_after_run::after_run;
 use frames_before_run::before_run;
 
 // How long the lent memory is at least.
-pub const COUNTS_SIZE: usize = 19;
+pub const COUNTS_SIZE: usize = 20;
 
 pub const WORDS_SIZE: usize = 544;
 

@@ -10,10 +10,10 @@ use frames::Edge;
 use frames::Frame;
 use frames::State;
 
-// The fields of a state: mask, value, links.
-pub fn state_frame(fields: &[u8]) -> Frame
+// The fields of a state, plain or inverted: mask, value, links.
+pub fn state_frame(fields: &[u8], inverted: bool) -> Frame
     requires { ⌜ d.hexadecimal (now fields) ≡ true ⌝ }
-    ensures { λ r. ⌜ f.said r ≡ f.spoken 1 (now (fields .entry)) ⌝ }
+    ensures { λ r. ⌜ f.said r ≡ f.spoken (cond inverted 7 1) (now (fields .entry)) ⌝ }
 {
     if fields.len() != 12 {
         return Frame::Nothing;
@@ -21,7 +21,12 @@ pub fn state_frame(fields: &[u8]) -> Frame
     let mask = half(&fields[0..4]);
     let value = half(&fields[4..8]);
     let links = number(&fields[8..12]);
-    Frame::State(State { mask, value, links })
+    Frame::State(State {
+        mask,
+        value,
+        links,
+        inverted,
+    })
 }
 
 // The field of a node: its sample.
@@ -68,12 +73,13 @@ pub fn spoken(kind: u32, fields: &[u8]) -> Frame
     ensures { λ r. ⌜ f.said r ≡ f.spoken kind (now (fields .entry)) ⌝ }
 {
     match kind {
-        1 => state_frame(fields),
+        1 => state_frame(fields, false),
         2 => node_frame(fields),
         3 => bare_frame(fields, true),
         4 => edge_frame(fields, true),
         5 => edge_frame(fields, false),
         6 => bare_frame(fields, false),
+        7 => state_frame(fields, true),
         _ => Frame::Nothing,
     }
 }

@@ -24,7 +24,7 @@ unfolding spoken
 spoken-long kind ds l =
     let other : (n : ℕ) → n ≤ 12 → eqb (length ds) n ≡ false = λ n h. ne-eqb (length ds) n (λ e. absurd (omega arith)) in
     let no : (k n : ℕ) → n ≤ 12 → (eqb kind k && eqb (length ds) n) ≡ false = λ k n h. and-none (eqb kind k) (other n h) in
-    rw (no 1 12 (omega arith), no 2 4 (omega arith), no 3 0 (omega arith), no 4 8 (omega arith), no 5 8 (omega arith), no 6 0 (omega arith))
+    rw (no 1 12 (omega arith), no 2 4 (omega arith), no 3 0 (omega arith), no 4 8 (omega arith), no 5 8 (omega arith), no 6 0 (omega arith), no 7 12 (omega arith))
 
 -- a line longer than any frame is none
 line-long : (line : List ℕ) → 14 < length line → frameOf line ≡ nothing

@@ -27,9 +27,10 @@ hex-part bs at n h room =
 module _ (ds : List ℕ) where
   -- ---- fields of a wrong length
 
-  pub state-wrong : (length ds ≡ 12 → ⊥) → nothing ≡ spoken 1 ds
+  pub state-wrong : (b : Bool) → (length ds ≡ 12 → ⊥) → nothing ≡ spoken (cond b 7 1) ds
   unfolding spoken
-  state-wrong h = rw (ne-eqb (length ds) 12 h)
+  state-wrong true h = rw (ne-eqb (length ds) 12 h)
+  state-wrong false h = rw (ne-eqb (length ds) 12 h)
 
   pub node-wrong : (length ds ≡ 4 → ⊥) → nothing ≡ spoken 2 ds
   unfolding spoken
@@ -47,9 +48,10 @@ module _ (ds : List ℕ) where
 
   -- ---- and of the right one
 
-  pub state-right : length ds ≡ 12 → state (field ds 0) (field ds 4) (field ds 8) ≡ spoken 1 ds
+  pub state-right : (b : Bool) → length ds ≡ 12 → state b (field ds 0) (field ds 4) (field ds 8) ≡ spoken (cond b 7 1) ds
   unfolding spoken
-  state-right e = rw (eq-eqb (length ds) 12 e)
+  state-right true e = rw (eq-eqb (length ds) 12 e)
+  state-right false e = rw (eq-eqb (length ds) 12 e)
 
   pub node-right : length ds ≡ 4 → node (field ds 0) ≡ spoken 2 ds
   unfolding spoken
@@ -73,9 +75,9 @@ module _ (ds : List ℕ) where
 
   -- ---- no other kind
 
-  pub kind-other : (k : ℕ) → (k ≡ 1 → ⊥) → (k ≡ 2 → ⊥) → (k ≡ 3 → ⊥) → (k ≡ 4 → ⊥) → (k ≡ 5 → ⊥) → (k ≡ 6 → ⊥) → nothing ≡ spoken k ds
+  pub kind-other : (k : ℕ) → (k ≡ 1 → ⊥) → (k ≡ 2 → ⊥) → (k ≡ 3 → ⊥) → (k ≡ 4 → ⊥) → (k ≡ 5 → ⊥) → (k ≡ 6 → ⊥) → (k ≡ 7 → ⊥) → nothing ≡ spoken k ds
   unfolding spoken
-  kind-other k a b c d e f = rw (ne-eqb k 1 a, ne-eqb k 2 b, ne-eqb k 3 c, ne-eqb k 4 d, ne-eqb k 5 e, ne-eqb k 6 f)
+  kind-other k a b c d e f g = rw (ne-eqb k 1 a, ne-eqb k 2 b, ne-eqb k 3 c, ne-eqb k 4 d, ne-eqb k 5 e, ne-eqb k 6 f, ne-eqb k 7 g)
 
 -- ---- a line
 

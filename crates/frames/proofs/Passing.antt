@@ -79,7 +79,7 @@ printed-fits {bytes} {m} p =
     omega (arith, p .many, ap (λ (x : Memory). length (x .out)) (p .left) ∙ length-append bytes (drop (length bytes) (m .out)))
 
 before-fits : (f : Frame) (m m' : Memory) (n : ℕ) → Before f m n m' → n ≤ length (m' .out)
-before-fits (state mask value links) m m' n p = printed-fits p
+before-fits (state inverted mask value links) m m' n p = printed-fits p
 before-fits (node sample) m m' n p = printed-fits p
 before-fits run m m' n p = printed-fits (p .prints)
 before-fits (edit k a b) m m' n p = printed-fits p
@@ -87,7 +87,7 @@ before-fits walk m m' n p = printed-fits p
 before-fits nothing m m' n p = printed-fits p
 
 after-fits : (f : Frame) (m m' : Memory) (n : ℕ) → After f m n m' → n ≤ length (m' .out)
-after-fits (state mask value links) m m' n p = printed-fits p
+after-fits (state inverted mask value links) m m' n p = printed-fits p
 after-fits (node sample) m m' n p = printed-fits p
 after-fits run m m' n p = printed-fits p
 after-fits (edit k a b) m m' n p = printed-fits (p .prints)

@@ -25,6 +25,7 @@ use Rattle.frames.specs.Outputs.{refusal, answered, ordered, walked}
 use Rattle.frames.specs.Machine.{
   Memory,
   memory,
+  samplesIn,
   statesRead,
   nodesRead,
   Ready,
@@ -42,7 +43,7 @@ use Rattle.frames.specs.Machine.{
 }
 use Rattle.frames.specs.Moments.{Moment, reading, running, reply, broken, printed, next}
 use Rattle.frames.specs.Program.{AtMoment}
-use Rattle.frames.proofs.Kept.{state-moment, state-read, state-ready, node-moment, node-read, node-ready}
+use Rattle.frames.proofs.Kept.{masks-many, state-moment, state-read, state-ready, node-moment, node-read, node-ready}
 
 -- ---- what a reply prints, and the moment after it
 
@@ -104,27 +105,20 @@ module _ (m : Memory) (r : Ready m) (moment : getD (m .counts) 0 0 ≡ 0) (n : �
   abbrev x : Given
   x = readSoFar m
 
-  masks-many : length (readSoFar m .masks) ≡ statesRead m
-  unfolding readSoFar
-  masks-many = length-take-le (statesRead m) (m .words) (omega (arith, r .words, r .few-states))
-
   samples-many : length (readSoFar m .samples) ≡ nodesRead m
   unfolding readSoFar
-  samples-many = length-take-le (nodesRead m) (drop 32 (m .words)) (omega (arith, length-drop 32 (m .words), r .words, r .few-nodes))
+  samples-many = length-take-le (nodesRead m) (drop samplesIn (m .words)) (omega (arith, length-drop samplesIn (m .words), r .words, r .few-nodes))
 
-  state-told : (mask value links : ℕ) → Before (state mask value links) m n m' → Told (reading (readSoFar m)) (state mask value links) m n m'
+  state-told : (inverted : Bool) (mask value links : ℕ) → Before (state inverted mask value links) m n m' → Told (reading (readSoFar m)) (state inverted mask value links) m n m'
   unfolding broken verdict
-  state-told mask value links w = by (leb maxStates (statesRead m)) refl
+  state-told inverted mask value links w = by (leb maxStates (statesRead m)) refl
     where
-      f : Frame
-      f = state mask value links
-
-      by : (full : Bool) → leb maxStates (statesRead m) ≡ full → Told (reading (readSoFar m)) (state mask value links) m n m'
-      by true e = told-refused (reading x) (state mask value links) m n m' 4 (rw (masks-many, e)) (λ z. absurd (omega (arith, z))) (r, moment, refl) (rw e at w)
+      by : (full : Bool) → leb maxStates (statesRead m) ≡ full → Told (reading (readSoFar m)) (state inverted mask value links) m n m'
+      by true e = told-refused (reading x) (state inverted mask value links) m n m' 4 (rw (masks-many m r, e)) (λ z. absurd (omega (arith, z))) (r, moment, refl) (rw e at w)
       by false e =
           let room = leb-false maxStates (statesRead m) e in
-          told-lines (reading x) (state mask value links) m n m' (stateKept m mask value links) (rw (masks-many, e)) refl
-          (state-ready m r mask value links room, state-moment m r mask value links room ∙ moment, state-read m r mask value links room) (rw e at w)
+          told-lines (reading x) (state inverted mask value links) m n m' (stateKept m inverted mask value links) (rw (masks-many m r, e)) refl
+          (state-ready m r inverted mask value links room, state-moment m r inverted mask value links room ∙ moment, state-read m r inverted mask value links room) (rw e at w)
 
   node-told : (sample : ℕ) → Before (node sample) m n m' → Told (reading (readSoFar m)) (node sample) m n m'
   unfolding broken verdict
@@ -269,7 +263,7 @@ module _ (b : Model) (m : Memory) (r : Ready m) (moment : getD (m .counts) 0 0 �
 pub before-told : (m : Memory) → Ready m → getD (m .counts) 0 0 ≡ 0 → maxChanges ≤ length (m .room) → (f : Frame) (n : ℕ) (m' : Memory) → Before f m n m'
     → Told (reading (readSoFar m)) f m n m'
 unfolding broken verdict
-before-told m r moment wide (state mask value links) n m' w = state-told m r moment n m' mask value links w
+before-told m r moment wide (state inverted mask value links) n m' w = state-told m r moment n m' inverted mask value links w
 before-told m r moment wide (node sample) n m' w = node-told m r moment n m' sample w
 before-told m r moment wide run n m' w = run-told m r moment wide n m' w
 before-told m r moment wide (edit k a b) n m' w = told-refused (reading (readSoFar m)) (edit k a b) m n m' 2 refl (λ z. absurd (omega (arith, z))) (r, moment, refl) w
@@ -281,7 +275,7 @@ pub after-told : (b : Model) (m : Memory) → Ready m → getD (m .counts) 0 0 �
 unfolding broken verdict
 after-told b m r moment h wide (edit k u v) n m' w = edited-told b m r moment h n m' k u v wide w
 after-told b m r moment h wide walk n m' w = walked-told b m r moment h n m' w
-after-told b m r moment h wide (state mask value links) n m' w = told-refused (running b) (state mask value links) m n m' 2 refl (λ z. absurd (omega (arith, z))) (r, moment, h) w
+after-told b m r moment h wide (state inverted mask value links) n m' w = told-refused (running b) (state inverted mask value links) m n m' 2 refl (λ z. absurd (omega (arith, z))) (r, moment, h) w
 after-told b m r moment h wide (node sample) n m' w = told-refused (running b) (node sample) m n m' 2 refl (λ z. absurd (omega (arith, z))) (r, moment, h) w
 after-told b m r moment h wide run n m' w = told-refused (running b) run m n m' 2 refl (λ z. absurd (omega (arith, z))) (r, moment, h) w
 after-told b m r moment h wide nothing n m' w = told-refused (running b) nothing m n m' 1 refl (λ z. absurd (omega (arith, z))) (r, moment, h) w

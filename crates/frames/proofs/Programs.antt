@@ -1,5 +1,6 @@
 -- The whole program: what its lines print is what 01 says, and the demands hold throughout.
 use Prim.Native.Nat.{ℕ, _≤_}
+use native.Mathlib.Nat.{mod-one}
 use native.Mathlib.Omega.{arith}
 use mathlib.Core.Path.{_≡_, refl, sym, _∙_, ap, ap₂, subst}
 use mathlib.Core.Logic.{_⊎_, ⊎-elim}
@@ -74,7 +75,7 @@ module _ (m : Memory) (l : Line) (wide : maxChanges ≤ length (l .room)) (n : �
         demand2 = demand2 x (m .session) (l .room) (w .answer) (l .left .session) (l .left .room) (w .loads) fine;
         demand3 = demand3 x (m .session) (l .room) (w .answer) (l .left .session) (l .left .room) (w .loads) fine;
       }
-  before-demanded r (state mask value links) w = tt
+  before-demanded r (state inverted mask value links) w = tt
   before-demanded r (node sample) w = tt
   before-demanded r (edit k u v) w = tt
   before-demanded r walk w = tt
@@ -93,7 +94,7 @@ module _ (m : Memory) (l : Line) (wide : maxChanges ≤ length (l .room)) (n : �
             (kept b (m .session) f c (w .edits) .0);
       }
   after-demanded b f walk w = tt
-  after-demanded b f (state mask value links) w = tt
+  after-demanded b f (state inverted mask value links) w = tt
   after-demanded b f (node sample) w = tt
   after-demanded b f run w = tt
   after-demanded b f nothing w = tt
@@ -172,7 +173,7 @@ fresh-holds m f = (
     few-nodes = omega (arith, f .nodes);
   },
   f .moment,
-  rw (f .states, f .nodes),
+  rw (f .states, f .nodes, mod-one),
 )
 
 -- from the start, every byte and the demands
@@ -195,7 +196,7 @@ module _ (k : ℕ) (h : (k ≡ 3) ⊎ (k ≡ 10)) where
 
   pub never : (p : Moment) (f : Frame) → broken p f ≡ k → ⊥
   unfolding broken
-  never (reading x) (state mask value links) = lacking _ (omega arith) (omega arith)
+  never (reading x) (state inverted mask value links) = lacking _ (omega arith) (omega arith)
   never (reading x) (node sample) = lacking _ (omega arith) (omega arith)
   never (reading x) run = lacking-long _ (omega arith) (omega arith)
   never (reading x) (edit kind u v) = lacking _ (omega arith) (omega arith)
@@ -204,7 +205,7 @@ module _ (k : ℕ) (h : (k ≡ 3) ⊎ (k ≡ 10)) where
   never (running b) (edit insertion u v) = lacking-long _ (omega arith) (omega arith)
   never (running b) (edit deletion u v) = lacking-long _ (omega arith) (omega arith)
   never (running b) walk = lacking [] (omega arith) (omega arith)
-  never (running b) (state mask value links) = lacking _ (omega arith) (omega arith)
+  never (running b) (state inverted mask value links) = lacking _ (omega arith) (omega arith)
   never (running b) (node sample) = lacking _ (omega arith) (omega arith)
   never (running b) run = lacking _ (omega arith) (omega arith)
   never (running b) nothing = lacking _ (omega arith) (omega arith)

@@ -1,6 +1,6 @@
 -- Lines and answers, computed from the definitions.
 use mathlib.Core.Path.{_≡_, refl}
-use mathlib.Core.Bool.{true}
+use mathlib.Core.Bool.{true, false}
 use mathlib.Core.List.{List, [], _∷_, map}
 use Prim.Native.Nat.{ℕ}
 use Rattle.promises.specs.Rules.{insertion, deletion}
@@ -11,9 +11,15 @@ use Rattle.frames.specs.Frames.{state, node, run, edit, walk, nothing, s
 use Rattle.frames.specs.Lines.{lines}
 use Rattle.frames.specs.Outputs.{refusal, reportLine}
 
--- 01FFFF00010002, 020001, 03, 0400000001, 0500010000, 06
+-- 01FFFF00010002, 07FFFF00010002, 020001, 03, 0400000001, 0500010000, 06
+pub state-fields : List ℕ
+state-fields = 70 ∷ 70 ∷ 70 ∷ 70 ∷ 48 ∷ 48 ∷ 48 ∷ 49 ∷ 48 ∷ 48 ∷ 48 ∷ 50 ∷ []
+
 pub state-line : List ℕ
-state-line = 48 ∷ 49 ∷ 70 ∷ 70 ∷ 70 ∷ 70 ∷ 48 ∷ 48 ∷ 48 ∷ 49 ∷ 48 ∷ 48 ∷ 48 ∷ 50 ∷ []
+state-line = 48 ∷ 49 ∷ state-fields
+
+pub inverted-line : List ℕ
+inverted-line = 48 ∷ 55 ∷ state-fields
 
 pub node-line : List ℕ
 node-line = 48 ∷ 50 ∷ 48 ∷ 48 ∷ 48 ∷ 49 ∷ []
@@ -24,7 +30,7 @@ insert-line = 48 ∷ 52 ∷ 48 ∷ 48 ∷ 48 ∷ 48 ∷ 48 ∷ 48 ∷ 48 ∷ 49 
 pub delete-line : List ℕ
 delete-line = 48 ∷ 53 ∷ 48 ∷ 48 ∷ 48 ∷ 49 ∷ 48 ∷ 48 ∷ 48 ∷ 48 ∷ []
 
--- and what is no frame: nothing, one digit, a blank after 03, a lower-case letter, a digit too many, the kinds 00 and 07
+-- and what is no frame: nothing, one digit, a blank after 03, a lower-case letter, a digit too many, also of an inverted state, the kinds 00 and 08
 pub wrong : List (List ℕ)
 wrong =
     []
@@ -32,13 +38,14 @@ wrong =
     ∷ (48 ∷ 51 ∷ 32 ∷ [])
     ∷ (48 ∷ 50 ∷ 48 ∷ 48 ∷ 48 ∷ 97 ∷ [])
     ∷ (48 ∷ 54 ∷ 48 ∷ [])
+    ∷ (48 ∷ 55 ∷ 48 ∷ state-fields)
     ∷ (48 ∷ 48 ∷ [])
-    ∷ (48 ∷ 55 ∷ [])
+    ∷ (48 ∷ 56 ∷ [])
     ∷ []
 
-pub read : map frameOf (state-line ∷ node-line ∷ (48 ∷ 51 ∷ []) ∷ insert-line ∷ delete-line ∷ (48 ∷ 54 ∷ []) ∷ wrong)
-    ≡ state 0xFFFF 1 2 ∷ node 1 ∷ run ∷ edit insertion 0 1 ∷ edit deletion 1 0 ∷ walk ∷ nothing ∷ nothing ∷ nothing ∷ nothing ∷ nothing ∷ nothing ∷ nothing ∷ []
-unfolding frameOf spoken hexadecimal digit numberFrom state-line node-line insert-line delete-line wrong allBelow
+pub read : map frameOf (state-line ∷ inverted-line ∷ node-line ∷ (48 ∷ 51 ∷ []) ∷ insert-line ∷ delete-line ∷ (48 ∷ 54 ∷ []) ∷ wrong)
+    ≡ state false 0xFFFF 1 2 ∷ state true 0xFFFF 1 2 ∷ node 1 ∷ run ∷ edit insertion 0 1 ∷ edit deletion 1 0 ∷ walk ∷ nothing ∷ nothing ∷ nothing ∷ nothing ∷ nothing ∷ nothing ∷ nothing ∷ nothing ∷ []
+unfolding frameOf spoken hexadecimal digit numberFrom state-fields state-line inverted-line node-line insert-line delete-line wrong allBelow
 read = refl
 
 -- 800100020002 and 8F0C, each with its line feed

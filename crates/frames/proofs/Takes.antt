@@ -27,12 +27,16 @@ use Rattle.frames.specs.Outputs.{refusal}
 use Rattle.frames.specs.Machine.{
   Memory,
   memory,
+  linksIn,
   countsSize,
+  valuesIn,
+  samplesIn,
   wordsSize,
   outputSize,
   statesRead,
   nodesRead,
   Ready,
+  invertedRead,
   readSoFar,
   moved,
   tooSmall,
@@ -56,12 +60,19 @@ printed-front counts words s c {out} {bytes} {out'} {n} p = record {
 }
 
 -- what the run loads is what was read so far
-pub read-parts : (m : Memory) → let n = statesRead m in
-    given (take (n - 0) (m .words)) (take (16 + n - 16) (drop 16 (m .words))) (take (3 + n - 3) (drop 3 (m .counts)))
-    (take (32 + nodesRead m - 32) (drop 32 (m .words))) [] []
+pub read-parts : (m : Memory) (inverted : ℕ) → inverted ≡ invertedRead m → let n = statesRead m in
+    given (take (n - 0) (m .words)) (take (valuesIn + n - valuesIn) (drop valuesIn (m .words))) (take (linksIn + n - linksIn) (drop linksIn (m .counts)))
+    inverted (take (samplesIn + nodesRead m - samplesIn) (drop samplesIn (m .words))) [] []
     ≡ readSoFar m
 unfolding readSoFar
-read-parts m = rw (sub-zero, part-from (m .words) 16 (statesRead m), part-from (m .counts) 3 (statesRead m), part-from (m .words) 32 (nodesRead m))
+read-parts m inverted e =
+    rw (
+      e,
+      sub-zero,
+      part-from (m .words) valuesIn (statesRead m),
+      part-from (m .counts) linksIn (statesRead m),
+      part-from (m .words) samplesIn (nodesRead m),
+    )
 
 -- ---- a frame of the other moment: edits and the order are early, states, nodes and the run are late
 
@@ -184,16 +195,16 @@ module _ (m m' : Memory) (n : ℕ) (r : Ready m) (c : Counted (m .counts)) where
   moved-counted (refused k) = c
 
   before-counted : (f : Frame) → Before f m n m' → Counted (m' .counts)
-  before-counted (state mask value links) w = by (leb maxStates (statesRead m)) refl
+  before-counted (state inverted mask value links) w = by (leb maxStates (statesRead m)) refl
     where
       by : (full : Bool) → leb maxStates (statesRead m) ≡ full → Counted (m' .counts)
       by true e = let p = rw e at w in same-counts _ (ap (λ (x : Memory). x .counts) (p .left)) c
       by false e =
           let p = rw e at w in
           let room = leb-false maxStates (statesRead m) e in
-          let more = state-ready m r mask value links room in
+          let more = state-ready m r inverted mask value links room in
           same-counts _ (ap (λ (x : Memory). x .counts) (p .left))
-          (omega (arith, c .0, state-moment m r mask value links room), more .few-states, more .few-nodes)
+          (omega (arith, c .0, state-moment m r inverted mask value links room), more .few-states, more .few-nodes)
   before-counted (node sample) w = by (leb maxNodes (nodesRead m)) refl
     where
       by : (full : Bool) → leb maxNodes (nodesRead m) ≡ full → Counted (m' .counts)
@@ -212,7 +223,7 @@ module _ (m m' : Memory) (n : ℕ) (r : Ready m) (c : Counted (m .counts)) where
   after-counted : (f : Frame) → After f m n m' → Counted (m' .counts)
   after-counted (edit k a b) w = same-counts _ (ap (λ (x : Memory). x .counts) (w .prints .left)) c
   after-counted walk w = same-counts _ (ap (λ (x : Memory). x .counts) (w .prints .left)) c
-  after-counted (state mask value links) w = same-counts _ (ap (λ (x : Memory). x .counts) (w .left)) c
+  after-counted (state inverted mask value links) w = same-counts _ (ap (λ (x : Memory). x .counts) (w .left)) c
   after-counted (node sample) w = same-counts _ (ap (λ (x : Memory). x .counts) (w .left)) c
   after-counted run w = same-counts _ (ap (λ (x : Memory). x .counts) (w .left)) c
   after-counted nothing w = same-counts _ (ap (λ (x : Memory). x .counts) (w .left)) c

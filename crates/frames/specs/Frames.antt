@@ -1,6 +1,6 @@
--- 01, "Frames": what a line says.
+-- 01, "Frames", and 02: what a line says.
 use Prim.Native.Nat.{ℕ}
-use mathlib.Core.Bool.{Bool, _&&_, cond}
+use mathlib.Core.Bool.{Bool, true, false, _&&_, cond}
 use mathlib.Core.List.{List}
 use lib.Dec.{leb, eqb}
 use lib.ListN.{length, take, drop}
@@ -9,9 +9,9 @@ use Rattle.frames.specs.declared.Frame.the-variants as F
 use Rattle.promises.specs.Rules.{Kind, insertion, deletion}
 use Rattle.frames.specs.Digits.{hexadecimal, number}
 
--- the kinds of input, and what is none of them
+-- the kinds of input, and what is none of them; a state with whether it is inverted
 pub data Frame : Type 0 where
-  state : ℕ → ℕ → ℕ → Frame
+  state : Bool → ℕ → ℕ → ℕ → Frame
   node : ℕ → Frame
   run : Frame
   edit : Kind → ℕ → ℕ → Frame
@@ -23,16 +23,17 @@ abbrev pub field : List ℕ → ℕ → ℕ
 field ds at = number (take 4 (drop at ds))
 
 -- "`01` state (mask 4 digits, value 4, links 4 ..); `02` node (sample 4); `03` run ..; `04` insert and `05` delete (start 4, end 4); `06` walk order";
--- "a wrong length meets 1"
+-- "a wrong length meets 1". 02, Job 1: "Frame `07` is a state frame with the fields of `01`, inverted."
 unfoldable pub spoken : ℕ → List ℕ → Frame
 spoken kind ds =
     let of : ℕ → ℕ → Bool = λ k n. eqb kind k && eqb (length ds) n in
-    cond (of 1 12) (state (field ds 0) (field ds 4) (field ds 8))
+    cond (of 1 12) (state false (field ds 0) (field ds 4) (field ds 8))
     (cond (of 2 4) (node (field ds 0))
     (cond (of 3 0) run
     (cond (of 4 8) (edit insertion (field ds 0) (field ds 4))
     (cond (of 5 8) (edit deletion (field ds 0) (field ds 4))
-    (cond (of 6 0) walk nothing)))))
+    (cond (of 6 0) walk
+    (cond (of 7 12) (state true (field ds 0) (field ds 4) (field ds 8)) nothing))))))
 
 -- "An empty line, a lower-case letter or a wrong length meets 1"
 unfoldable pub frameOf : List ℕ → Frame
@@ -40,7 +41,7 @@ frameOf line = cond (leb 2 (length line) && hexadecimal line) (spoken (number (t
 
 -- a frame of the code
 abbrev pub said : declared.Frame → Frame
-said (F.State s) = state (s .mask) (s .value) (s .links)
+said (F.State s) = state (s .inverted) (s .mask) (s .value) (s .links)
 said (F.Node x) = node x
 said F.Run = run
 said (F.Insert e) = edit insertion (e .start) (e .end)

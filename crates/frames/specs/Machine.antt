@@ -1,5 +1,5 @@
 -- What the program's machine promises when it takes one line, whatever the line and the lent memory are.
-use Prim.Native.Nat.{ℕ, _+_, _*_, _≤_}
+use Prim.Native.Nat.{ℕ, _+_, _*_, _^_, _%_, _≤_}
 use mathlib.Core.Path.{_≡_}
 use mathlib.Core.Bool.{Bool, _||_, cond}
 use mathlib.Core.List.{List, [], _∷_, _++_}
@@ -18,7 +18,8 @@ use Rattle.frames.specs.declared.Taken.the-variants as T
 use Rattle.frames.specs.Frames.{Frame, state, node, run, edit, walk, nothing, frameOf}
 use Rattle.frames.specs.Outputs.{refusal, answered, ordered}
 
--- The lent memory. Counts: 0 before an accepted run and 1 after it, the number of states read, the number of nodes read, the states' links.
+-- The lent memory. Counts: 0 before an accepted run and 1 after it, the number of states read, the number of nodes read, the inverted states, the
+-- states' links.
 -- Words: masks, values, samples.
 pub record Memory : Type 0 where
   pub counts : List ℕ
@@ -30,8 +31,11 @@ pub record Memory : Type 0 where
 abbrev pub memory : List ℕ → List ℕ → List ℕ → List ℤ → List ℕ → Memory
 memory counts words session room out = record { counts = counts; words = words; session = session; room = room; out = out }
 
+abbrev pub invertedIn : ℕ
+invertedIn = 3
+
 abbrev pub linksIn : ℕ
-linksIn = 3
+linksIn = invertedIn + 1
 
 abbrev pub countsSize : ℕ
 countsSize = linksIn + maxStates
@@ -63,11 +67,15 @@ pub record Ready (m : Memory) : Type 0 where
   pub few-states : statesRead m ≤ maxStates
   pub few-nodes : nodesRead m ≤ maxNodes
 
+-- the inverted ones among the states read
+abbrev pub invertedRead : Memory → ℕ
+invertedRead m = getD (m .counts) invertedIn 0 % 2 ^ statesRead m
+
 -- "the states and nodes read so far", as a load without edges
 unfoldable pub readSoFar : Memory → Given
 readSoFar m =
     let n = statesRead m in
-    given (part (m .words) 0 n) (part (m .words) valuesIn n) (part (m .counts) linksIn n) (part (m .words) samplesIn (nodesRead m)) [] []
+    given (part (m .words) 0 n) (part (m .words) valuesIn n) (part (m .counts) linksIn n) (invertedRead m) (part (m .words) samplesIn (nodesRead m)) [] []
 
 -- what the memory itself may break: too short, or counts out of range
 abbrev pub tooSmall : Memory → Bool
@@ -96,10 +104,11 @@ pub record Prints (bytes : List ℕ) (m : Memory) (n : ℕ) (m' : Memory) : Type
   pub left : m' ≡ printing bytes m
 
 -- one state more, or one node more
-abbrev pub stateKept : Memory → ℕ → ℕ → ℕ → Memory
-stateKept m mask value links =
+abbrev pub stateKept : Memory → Bool → ℕ → ℕ → ℕ → Memory
+stateKept m inverted mask value links =
     let n = statesRead m in
-    memory (set (set (m .counts) (linksIn + n) links) 1 (n + 1)) (set (set (m .words) n mask) (valuesIn + n) value) (m .session) (m .room) (m .out)
+    memory (set (set (set (m .counts) (linksIn + n) links) invertedIn (invertedRead m + cond inverted (2 ^ n) 0)) 1 (n + 1))
+    (set (set (m .words) n mask) (valuesIn + n) value) (m .session) (m .room) (m .out)
 
 abbrev pub nodeKept : Memory → ℕ → Memory
 nodeKept m sample =
@@ -137,7 +146,7 @@ pub record Walked (m : Memory) (n : ℕ) (m' : Memory) : Type 0 where
 
 -- What a frame comes to, before an accepted run and after it: rule 1 comes before 2, and 2 before those of the states, the nodes and the calls.
 abbrev pub Before : Frame → Memory → ℕ → Memory → Type 0
-Before (state mask value links) m n m' = KeptOrFull (leb maxStates (statesRead m)) 4 m (stateKept m mask value links) n m'
+Before (state inverted mask value links) m n m' = KeptOrFull (leb maxStates (statesRead m)) 4 m (stateKept m inverted mask value links) n m'
 Before (node sample) m n m' = KeptOrFull (leb maxNodes (nodesRead m)) 6 m (nodeKept m sample) n m'
 Before run m n m' = Ran m n m'
 Before (edit k a b) m n m' = Prints (refusal 2) m n m'
@@ -147,7 +156,7 @@ Before nothing m n m' = Prints (refusal 1) m n m'
 abbrev pub After : Frame → Memory → ℕ → Memory → Type 0
 After (edit k a b) m n m' = Changed k a b m n m'
 After walk m n m' = Walked m n m'
-After (state mask value links) m n m' = Prints (refusal 2) m n m'
+After (state inverted mask value links) m n m' = Prints (refusal 2) m n m'
 After (node sample) m n m' = Prints (refusal 2) m n m'
 After run m n m' = Prints (refusal 2) m n m'
 After nothing m n m' = Prints (refusal 1) m n m'

@@ -1,6 +1,6 @@
 -- 01, "Frames": what the program prints, told from the lines alone. Nothing here speaks of memory.
-use Prim.Native.Nat.{ℕ}
-use mathlib.Core.Bool.{true, cond}
+use Prim.Native.Nat.{ℕ, _+_, _^_}
+use mathlib.Core.Bool.{Bool, true, cond}
 use mathlib.Core.List.{List, [], _∷_, _++_, map}
 use lib.Dec.{leb, eqb}
 use lib.ListN.{length}
@@ -20,15 +20,16 @@ pub data Moment : Type 0 where
   running : Model → Moment
 
 abbrev pub start : Moment
-start = reading (given [] [] [] [] [] [])
+start = reading (given [] [] [] 0 [] [] [])
 
--- one state more, or one node more
-abbrev pub withState : Given → ℕ → ℕ → ℕ → Given
-withState x mask value links =
-    given (x .masks ++ (mask ∷ [])) (x .values ++ (value ∷ [])) (x .links ++ (links ∷ [])) (x .samples) (x .starts) (x .ends)
+-- one state more, which has the next bit of the inverted states, or one node more
+abbrev pub withState : Given → Bool → ℕ → ℕ → ℕ → Given
+withState x inverted mask value links =
+    given (x .masks ++ (mask ∷ [])) (x .values ++ (value ∷ [])) (x .links ++ (links ∷ [])) (x .inverted + cond inverted (2 ^ length (x .masks)) 0)
+    (x .samples) (x .starts) (x .ends)
 
 abbrev pub withNode : Given → ℕ → Given
-withNode x sample = given (x .masks) (x .values) (x .links) (x .samples ++ (sample ∷ [])) (x .starts) (x .ends)
+withNode x sample = given (x .masks) (x .values) (x .links) (x .inverted) (x .samples ++ (sample ∷ [])) (x .starts) (x .ends)
 
 -- the reports of a run and of an edit
 abbrev pub runLines : Given → List ℕ
@@ -53,13 +54,14 @@ breaks n moment = carries (rule n true ∷ []) [] moment
 -- accepted run, any other before it." "A 17th state meets 4 and a 513th node meets 6 as its line is read"; "`03` run, a load without edges";
 -- "Accepted states and nodes print nothing."
 abbrev pub reply : Moment → Frame → Reply
-reply (reading x) (state mask value links) = carries (rule 4 (leb maxStates (length (x .masks))) ∷ []) [] (reading (withState x mask value links))
+reply (reading x) (state inverted mask value links) =
+    carries (rule 4 (leb maxStates (length (x .masks))) ∷ []) [] (reading (withState x inverted mask value links))
 reply (reading x) (node sample) = carries (rule 6 (leb maxNodes (length (x .samples))) ∷ []) [] (reading (withNode x sample))
 reply (reading x) run = carries (loadRules fixedSize maxChanges x) (runLines x) (running (begun x))
 reply (reading x) (edit k a b) = breaks 2 (reading x)
 reply (reading x) walk = breaks 2 (reading x)
 reply (reading x) nothing = breaks 1 (reading x)
-reply (running m) (state mask value links) = breaks 2 (running m)
+reply (running m) (state inverted mask value links) = breaks 2 (running m)
 reply (running m) (node sample) = breaks 2 (running m)
 reply (running m) run = breaks 2 (running m)
 reply (running m) (edit k a b) = carries (modelRules m (editing k a b)) (editLines m k a b) (running (step m (editing k a b)))

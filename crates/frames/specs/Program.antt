@@ -109,13 +109,13 @@ pub record Edits (b : Model) (k : Kind) (u v : ℕ) (l : Line) : Type 1 where
 
 abbrev pub Demanded : Moment → Frame → Line → Type 1
 Demanded (reading x) run l = broken (reading x) run ≡ 0 → Loads x l
-Demanded (reading x) (state mask value links) l = Unit {1}
+Demanded (reading x) (state inverted mask value links) l = Unit {1}
 Demanded (reading x) (node sample) l = Unit {1}
 Demanded (reading x) (edit k u v) l = Unit {1}
 Demanded (reading x) walk l = Unit {1}
 Demanded (reading x) nothing l = Unit {1}
 Demanded (running b) (edit k u v) l = Edits b k u v l
-Demanded (running b) (state mask value links) l = Unit {1}
+Demanded (running b) (state inverted mask value links) l = Unit {1}
 Demanded (running b) (node sample) l = Unit {1}
 Demanded (running b) run l = Unit {1}
 Demanded (running b) walk l = Unit {1}

@@ -19,6 +19,7 @@ pub struct State {
     pub mask: u16,
     pub value: u16,
     pub links: u32,
+    pub inverted: bool,
 }
 
 pub struct Edge {

@@ -1,7 +1,8 @@
 // Frames before an accepted run: a state or a node is kept, and the run loads what was read.
 ghost use mathlib.Core.Path.{_≡_};
+ghost use mathlib.Core.Bool.{cond};
 ghost use mathlib.Core.List.{List};
-ghost use Prim.Native.Nat.{ℕ, _<_, _≤_};
+ghost use Prim.Native.Nat.{ℕ, _+_, _^_, _%_, _<_, _≤_};
 ghost use lib.IntN.{ℤ};
 ghost use lib.ListN.{length, getD};
 ghost use Rattle.session.specs.Limits.{maxStates, maxNodes};
@@ -16,7 +17,9 @@ use loading::load;
 use promises::Answer;
 
 // The places of the counts and of the words.
-pub const LINKS_IN: usize = 3;
+pub const INVERTED_IN: usize = 3;
+
+pub const LINKS_IN: usize = 4;
 
 pub const VALUES_IN: usize = 16;
 
@@ -25,16 +28,25 @@ pub const SAMPLES_IN: usize = 32;
 // What an accepted state or node prints.
 pub const NOTHING: usize = 0;
 
+// The inverted states among the first n, and whether the next state is one.
+pub fn also_inverted(set: u32, n: u32, inverted: bool) -> u32
+    requires { ⌜ n < 32 ⌝ }
+    ensures { λ r. ⌜ r ≡ set % 2 ^ n + cond inverted (2 ^ n) 0 ⌝ }
+{
+    bits::kept_below(set, n) + bits::picked(bits::only(n), inverted)
+}
+
 // Keeps a state.
 pub fn state_line(counts: &mut [u32], words: &mut [u16], state: State, out: &mut [u8]) -> usize
     requires { ⌜ (m.countsSize ≤ length (now counts)) × (m.wordsSize ≤ length (now words)) × (5 ≤ length (now out)) ⌝ }
-    ensures { λ r. ⌜ ((s : List ℕ) → (c : List ℤ) → m.Before (f.state (state .mask) (state .value) (state .links)) (m.memory (now (counts .entry)) (now (words .entry)) s c (now (out .entry))) r (m.memory (now (counts .exit)) (now (words .exit)) s c (now (out .exit)))) ⌝ }
+    ensures { λ r. ⌜ ((s : List ℕ) → (c : List ℤ) → m.Before (f.state (state .inverted) (state .mask) (state .value) (state .links)) (m.memory (now (counts .entry)) (now (words .entry)) s c (now (out .entry))) r (m.memory (now (counts .exit)) (now (words .exit)) s c (now (out .exit)))) ⌝ }
 {
     let n = counts[1] as usize;
     if session::MAX_STATES <= n {
         return put_refusal(out, 0, 4);
     }
     counts[LINKS_IN + n] = state.links;
+    counts[INVERTED_IN] = also_inverted(counts[INVERTED_IN], n as u32, state.inverted);
     counts[1] = (n + 1) as u32;
     words[n] = state.mask;
     words[VALUES_IN + n] = state.value;
@@ -84,11 +96,13 @@ pub fn run_line(
     let values_end = VALUES_IN + states;
     let links_end = LINKS_IN + states;
     let samples_end = SAMPLES_IN + nodes;
+    let inverted = bits::kept_below(counts[INVERTED_IN], states as u32);
     let answer = load(
         session,
         &words[0..states],
         &words[VALUES_IN..values_end],
         &counts[LINKS_IN..links_end],
+        inverted,
         &words[SAMPLES_IN..samples_end],
         &counts[0..0],
         &counts[0..0],

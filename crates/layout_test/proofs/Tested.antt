@@ -24,6 +24,7 @@ use Rattle.session.specs.Limits.{
   maxNodes,
   maxEdges,
   wordBits,
+  invertedAt,
   masksAt,
   valuesAt,
   linksAt,
@@ -32,7 +33,7 @@ use Rattle.session.specs.Limits.{
   marksAt,
   fixedSize,
 }
-use Rattle.session.specs.Trigger.{Trigger, Graph, Marks, states, nodes, agrees, admits}
+use Rattle.session.specs.Trigger.{Trigger, Graph, Marks, states, nodes, accepts, admits}
 use Rattle.session.specs.Layout.{
   table,
   section,
@@ -51,7 +52,7 @@ use Rattle.session.specs.Layout.{
 use Rattle.session.specs.Tests.{fits, allNamed, sparse, triggerTest, graphTest, marksTest}
 use Rattle.session.proofs.Tables.{length-table, getD-table, length-section, getD-section, below-take, below-make, fits-gathered}
 use Rattle.session.proofs.Valid.{TriggerFacts, GraphFacts, graph-facts, marks-facts, marks-valid}
-use Rattle.session.proofs.Image.{mask-word, value-word, link-word, sample-word, edge-word, mark-word}
+use Rattle.session.proofs.Image.{inverted-word, mask-word, value-word, link-word, sample-word, edge-word, mark-word}
 use Rattle.session.proofs.Decoded.{marks-take, layout-image, LayoutFacts, layout-whole, layout-facts}
 
 -- ---- a memory that is not in layout: it is too short, or a count is out of its limits
@@ -182,6 +183,7 @@ module _ (xs : List ℕ) where
     masks : Fits xs masksAt maxStates wordBits n
     values : Fits xs valuesAt maxStates wordBits n
     links : Fits xs linksAt maxStates n n
+    inverted : getD xs invertedAt 0 < 2 ^ n
 
   record GraphWords (m e : ℕ) : Type 0 where
     samples : Fits xs samplesAt maxNodes wordBits m
@@ -191,7 +193,8 @@ module _ (xs : List ℕ) where
 
   -- the state u admits the sample at v
   abbrev fit : ℕ → ℕ → ℕ → Set
-  fit n m u v = agrees wordBits (getD (part xs masksAt n) u 0) (getD (part xs valuesAt n) u 0) (getD (part xs samplesAt m) v 0)
+  fit n m u v =
+      accepts wordBits (members (getD xs invertedAt 0) u) (getD (part xs masksAt n) u 0) (getD (part xs valuesAt n) u 0) (getD (part xs samplesAt m) v 0)
 
   record MarkWords (n m : ℕ) : Type 0 where
     words : Fits xs marksAt maxNodes n m
@@ -204,11 +207,14 @@ module _ (xs : List ℕ) where
         let a = fits wordBits n (part xs masksAt maxStates) in
         let b = fits wordBits n (part xs valuesAt maxStates) in
         let c = fits n n (part xs linksAt maxStates) in
-        let r = and-r a (b && c) h in
+        let d = ltb (getD xs invertedAt 0) (2 ^ n) in
+        let r = and-r a (b && (c && d)) h in
+        let s = and-r b (c && d) r in
         record {
-          masks = fits-take xs masksAt maxStates wordBits n (omega arith) (and-l a (b && c) h);
-          values = fits-take xs valuesAt maxStates wordBits n (omega arith) (and-l b c r);
-          links = fits-take xs linksAt maxStates n n (omega arith) (and-r b c r);
+          masks = fits-take xs masksAt maxStates wordBits n (omega arith) (and-l a (b && (c && d)) h);
+          values = fits-take xs valuesAt maxStates wordBits n (omega arith) (and-l b (c && d) r);
+          links = fits-take xs linksAt maxStates n n (omega arith) (and-l c d s);
+          inverted = ltb-true (getD xs invertedAt 0) (2 ^ n) (and-r c d s);
         }
 
     trigger-make : (n : ℕ) → TriggerWords n → triggerTest xs n ≡ true
@@ -217,7 +223,7 @@ module _ (xs : List ℕ) where
         and-make (fits-make xs masksAt maxStates wordBits n (omega arith) (f .masks))
         (and-make
         (fits-make xs valuesAt maxStates wordBits n (omega arith) (f .values))
-        (fits-make xs linksAt maxStates n n (omega arith) (f .links)))
+        (and-make (fits-make xs linksAt maxStates n n (omega arith) (f .links)) (lt-ltb (getD xs invertedAt 0) (2 ^ n) (f .inverted))))
 
     module _ (m e : ℕ) (few : e ≤ maxEdges) where
       graph-take : graphTest xs m e ≡ true → GraphWords m e
@@ -257,7 +263,8 @@ module _ (xs : List ℕ) where
       size = part-length xs marksAt m (omega arith)
 
       abbrev row : ℕ → Bool
-      row u = sparse (part xs samplesAt m) marks (getD (part xs masksAt n) u 0) (getD (part xs valuesAt n) u 0) u
+      row u =
+          sparse (part xs samplesAt m) marks (members (getD xs invertedAt 0) u) (getD (part xs masksAt n) u 0) (getD (part xs valuesAt n) u 0) u
 
       row-take : (u v : ℕ) → row u ≡ true → v < m → members (getD xs (marksAt + v) 0) u ≡ true → fit n m u v ≡ true
       unfolding sparse
@@ -407,6 +414,7 @@ module _ (xs : List ℕ) where
           links = holds-fits xs linksAt maxStates n n (t .links) (f .trigger .links ∙ sym (f .counts .0))
               (subst (λ (b : ℕ). below (2 ^ b) (t .links) ≡ true) (sym (f .counts .0)) (f .trigger .links-fit))
               (λ i l. through (linksAt + i) ∙ link-word t g k rest i l);
+          inverted = rw (through invertedAt, inverted-word t g k rest, f .counts .0) (f .trigger .inverted-fit);
         }
 
     edges-few : e ≤ maxEdges
@@ -496,6 +504,7 @@ module _ (xs : List ℕ) where
         links-fit =
             subst (λ (b : ℕ). below (2 ^ b) (part xs linksAt n) ≡ true) (sym count-states)
             (fits-below xs linksAt maxStates n n (omega arith) few-states (tw .links));
+        inverted-fit = subst (λ (b : ℕ). getD xs invertedAt 0 < 2 ^ b) (sym count-states) (tw .inverted);
       }
 
       graph-holds : GraphFacts g
@@ -557,15 +566,19 @@ module _ (xs : List ℕ) where
           (section-on xs samplesAt maxNodes m (omega arith) few-nodes (gw .samples .rest)
           (section-on xs edgesAt maxEdges e (omega arith) few-edges (gw .rest) (part-on xs marksAt maxNodes marks-table refl)))))
 
-      at-counts : xs ≡ n ∷ m ∷ e ∷ drop masksAt xs
+      at-counts : xs ≡ n ∷ m ∷ e ∷ t .inverted ∷ drop masksAt xs
+      unfolding triggerOf
       at-counts =
           drop-cons xs 0 0 (omega arith)
-          ∙ ap (λ (r : List ℕ). n ∷ r) (drop-cons xs 1 0 (omega arith) ∙ ap (λ (r : List ℕ). m ∷ r) (drop-cons xs 2 0 (omega arith)))
+          ∙ ap (λ (r : List ℕ). n ∷ r)
+          (drop-cons xs 1 0 (omega arith)
+          ∙ ap (λ (r : List ℕ). m ∷ r)
+          (drop-cons xs 2 0 (omega arith) ∙ ap (λ (r : List ℕ). e ∷ r) (drop-cons xs invertedAt 0 (omega arith))))
 
       whole : xs ≡ image t g k ++ rest
       unfolding image
       whole =
-          at-counts ∙ ap (λ (r : List ℕ). n ∷ m ∷ e ∷ r) at-masks ∙ rw (count-states, count-nodes, count-edges) (simp append-assoc)
+          at-counts ∙ ap (λ (r : List ℕ). n ∷ m ∷ e ∷ t .inverted ∷ r) at-masks ∙ rw (count-states, count-nodes, count-edges) (simp append-assoc)
 
       in-layout : inLayout xs ≡ true
       in-layout = rw whole (layout-image t g k rest trigger-holds graph-holds marks-hold inside)

@@ -30,13 +30,14 @@ pub fn marks_fit(session: &[u32], states: usize, nodes: usize) -> bool
         && all_admitted(
             &session[session::MASKS_AT..masks_end],
             &session[session::VALUES_AT..values_end],
+            session[session::INVERTED_AT],
             &session[session::SAMPLES_AT..samples_end],
             &session[session::MARKS_AT..marks_end],
             used,
         )
 }
 
-// Whether the sections of the trigger fit.
+// Whether the sections of the trigger fit, and its inverted states.
 pub fn trigger_fits(session: &[u32], states: usize) -> bool
     requires { ⌜ (fixedSize ≤ length (now session)) × (states ≤ maxStates) ⌝ }
     ensures { λ r. ⌜ r ≡ triggerTest (now (session .entry)) states ⌝ }
@@ -51,11 +52,12 @@ pub fn trigger_fits(session: &[u32], states: usize) -> bool
             states,
             session::WORD_BITS,
         )
-            && section_fits(
+            && (section_fits(
                 &session[session::LINKS_AT..session::SAMPLES_AT],
                 states,
                 states as u32,
-            ))
+            )
+                && bits::inside(session[session::INVERTED_AT], states as u32)))
 }
 
 // Whether the sections of the graph fit.

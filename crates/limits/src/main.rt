@@ -75,6 +75,7 @@ struct Sizes {
     masks: usize,
     values: usize,
     links: usize,
+    inverted: u32,
     nodes: usize,
     starts: usize,
     ends: usize,
@@ -88,6 +89,7 @@ fn least() -> Sizes {
         masks: 1,
         values: 1,
         links: 1,
+        inverted: 0,
         nodes: 1,
         starts: 0,
         ends: 0,
@@ -142,6 +144,7 @@ fn attempt(label: &[u8], sizes: Sizes, links: &[u32], starts: &[u32], ends: &[u3
             &masks[..a],
             &values[..b],
             &links[..c],
+            sizes.inverted,
             &samples[..n],
             &starts[..d],
             &ends[..e],
@@ -173,6 +176,20 @@ fn linked(label: &[u8], set: u32) {
     sizes.masks = 3;
     sizes.values = 3;
     sizes.links = 3;
+    attempt(label, sizes, &links, &starts, &ends);
+}
+
+// Three states that admit every node but where they are inverted: this set, and the links of the first.
+fn inverted(label: &[u8], set: u32, link: u32) {
+    let mut links = no_links();
+    let starts = edge_ends();
+    let ends = edge_ends();
+    let mut sizes = least();
+    links[0] = link;
+    sizes.masks = 3;
+    sizes.values = 3;
+    sizes.links = 3;
+    sizes.inverted = set;
     attempt(label, sizes, &links, &starts, &ends);
 }
 
@@ -246,6 +263,10 @@ fn main() {
     linked(b"3 states, a link to state 3", 4);
     linked(b"3 states, a link to state 4", 8);
     linked(b"3 states, a link to state 32", 2147483648);
+    inverted(b"3 states, state 3 inverted", 4, 0);
+    inverted(b"3 states, state 4 inverted", 8, 0);
+    inverted(b"3 states, state 32 inverted", 2147483648, 0);
+    inverted(b"3 states, state 4 inverted and linked to", 8, 8);
     joined(b"edges (0, 511) and (511, 0)", 0, 511, 511, 0);
     joined(b"edges (0, 512) and (511, 0)", 0, 512, 511, 0);
     joined(b"edges (0, 0) and (512, 0)", 0, 0, 512, 0);

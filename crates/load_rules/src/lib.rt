@@ -10,11 +10,12 @@ ghost use Rattle.session.specs.Layout.{below};
 ghost use Rattle.promises.specs.Rules.{given, precedes, loadRules, verdict};
 use reports::too_short;
 
-// Rule 4: no state, too many, or one given in part.
-pub fn states_wrong(masks: usize, values: usize, links: usize) -> bool
-    ensures { λ r. ⌜ r ≡ ((eqb masks 0 || ltb 16 masks) || (not (eqb values masks) || not (eqb links masks))) ⌝ }
+// Rule 4: no state, too many, or one given in part, such as an inverted state that has no mask.
+pub fn states_wrong(masks: usize, values: usize, links: usize, inverted: u32) -> bool
+    ensures { λ r. ⌜ r ≡ ((eqb masks 0 || ltb maxStates masks) || ((not (eqb values masks) || not (eqb links masks)) || not (ltb inverted (2 ^ masks)))) ⌝ }
 {
-    (masks == 0 || session::MAX_STATES < masks) || (values != masks || links != masks)
+    (masks == 0 || session::MAX_STATES < masks)
+        || ((values != masks || links != masks) || !bits::inside(inverted, masks as u32))
 }
 
 // Rule 5: a link goes to a state above the number of states.
@@ -70,16 +71,17 @@ pub fn load_rule(
     masks: &[u16],
     values: &[u16],
     links: &[u32],
+    inverted: u32,
     samples: &[u16],
     starts: &[u32],
     ends: &[u32],
 ) -> u8
-    ensures { λ r. ⌜ r ≡ verdict (loadRules memory room (given (now (masks .entry)) (now (values .entry)) (now (links .entry)) (now (samples .entry)) (now (starts .entry)) (now (ends .entry)))) ⌝ }
+    ensures { λ r. ⌜ r ≡ verdict (loadRules memory room (given (now (masks .entry)) (now (values .entry)) (now (links .entry)) inverted (now (samples .entry)) (now (starts .entry)) (now (ends .entry)))) ⌝ }
 {
     if too_short(memory, room) {
         return 3;
     }
-    if states_wrong(masks.len(), values.len(), links.len()) {
+    if states_wrong(masks.len(), values.len(), links.len(), inverted) {
         return 4;
     }
     if links_wrong(links, masks.len()) {

@@ -7,7 +7,7 @@ use mathlib.Core.List.{List, [], _∷_, _++_}
 use lib.ListN.{length, set, take, drop, length-take, length-drop}
 use lib.Seq.{drop-at}
 use borrow.Rule.Slice.PartMut.{putMid}
-use Rattle.session.specs.Limits.{fixedSize, masksAt, valuesAt, linksAt, samplesAt, edgesAt, marksAt}
+use Rattle.session.specs.Limits.{fixedSize, invertedAt, masksAt, valuesAt, linksAt, samplesAt, edgesAt, marksAt}
 use Rattle.session.specs.Layout.{numbered, section, image}
 use Rattle.session.proofs.Tables.{length-section, length-table}
 use Rattle.session.proofs.Stores.{front, image-front, no-marks, write-counts, put-section}
@@ -25,7 +25,7 @@ filled ys xs written source part p k e l room f =
 
 -- the sections before the marks are those of the trigger and the graph that are given
 front-given : (x : Given)
-    → ((((((length (x .masks) ∷ length (x .samples) ∷ length (x .starts) ∷ []) ++ section 16 (x .masks)) ++ section 16 (x .values)) ++ section 16 (x .links))
+    → ((((((length (x .masks) ∷ length (x .samples) ∷ length (x .starts) ∷ x .inverted ∷ []) ++ section 16 (x .masks)) ++ section 16 (x .values)) ++ section 16 (x .links))
     ++ section 512 (x .samples))
     ++ section 2048 (numbered (x .starts) (x .ends)))
     ≡ front (givenTrigger x) (givenGraph x)
@@ -33,14 +33,14 @@ unfolding front
 front-given x =
     ap
     (λ (e : ℕ).
-    (((((length (x .masks) ∷ length (x .samples) ∷ e ∷ []) ++ section 16 (x .masks)) ++ section 16 (x .values)) ++ section 16 (x .links))
+    (((((length (x .masks) ∷ length (x .samples) ∷ e ∷ x .inverted ∷ []) ++ section 16 (x .masks)) ++ section 16 (x .values)) ++ section 16 (x .links))
     ++ section 512 (x .samples))
     ++ section 2048 (numbered (x .starts) (x .ends)))
     (sym (length-table (length (x .starts)) _))
 
 module _ (x : Given) (ys : List ℕ) (long : fixedSize ≤ length ys) (p1 p2 p3 p4 p5 p6 : List ℕ) where
   abbrev x0 : List ℕ
-  x0 = set (set (set ys 0 (length (x .masks))) 1 (length (x .samples))) 2 (length (x .starts))
+  x0 = set (set (set (set ys 0 (length (x .masks))) 1 (length (x .samples))) 2 (length (x .starts))) invertedAt (x .inverted)
 
   abbrev x1 : List ℕ
   x1 = putMid masksAt 16 x0 p1
@@ -59,7 +59,7 @@ module _ (x : Given) (ys : List ℕ) (long : fixedSize ≤ length ys) (p1 p2 p3 
 
   -- what is written before each section
   abbrev s0 : List ℕ
-  s0 = length (x .masks) ∷ length (x .samples) ∷ length (x .starts) ∷ []
+  s0 = length (x .masks) ∷ length (x .samples) ∷ length (x .starts) ∷ x .inverted ∷ []
 
   abbrev s1 : List ℕ
   s1 = s0 ++ section 16 (x .masks)
@@ -84,7 +84,9 @@ module _ (x : Given) (ys : List ℕ) (long : fixedSize ≤ length ys) (p1 p2 p3 
       → p6 ≡ section (length (take 512 (drop marksAt x5))) []
       → putMid marksAt 512 x5 p6 ≡ image (givenTrigger x) (givenGraph x) (λ u v. false) ++ drop fixedSize ys
   sections-written f1 f2 f3 f4 f5 f6 =
-      let w1 = filled ys x0 s0 (x .masks) p1 masksAt 16 (write-counts ys (length (x .masks)) (length (x .samples)) (length (x .starts)) (omega arith)) refl (omega arith) f1 in
+      let w1 =
+      filled ys x0 s0 (x .masks) p1 masksAt 16 (write-counts ys (length (x .masks)) (length (x .samples)) (length (x .starts)) (x .inverted) (omega arith)) refl
+      (omega arith) f1 in
       let w2 = filled ys x1 s1 (x .values) p2 valuesAt 16 (w1 .0) (w1 .1) (omega arith) f2 in
       let w3 = filled ys x2 s2 (x .links) p3 linksAt 16 (w2 .0) (w2 .1) (omega arith) f3 in
       let w4 = filled ys x3 s3 (x .samples) p4 samplesAt 512 (w3 .0) (w3 .1) (omega arith) f4 in

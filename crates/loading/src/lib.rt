@@ -10,16 +10,13 @@ ghost use mathlib.Core.List.{_++_};
 ghost use Rattle.promises.specs.Rules.{given, givenTrigger, givenGraph, loadRules, verdict};
 ghost use Rattle.promises.specs.Promises.{Loaded};
 use load_rules::load_rule;
-use pair_tables::admitted;
 use promises::Answer;
 use refinement::refine_indexed;
 use reports::report;
+use session_parts::admitted_pairs;
 use session_parts::edges_of;
 use session_parts::links_of;
-use session_parts::masks_of;
-use session_parts::samples_of;
 use session_parts::store_marks;
-use session_parts::values_of;
 use worklist::WAITING_WORDS;
 
 // Puts the greatest simulation of what the session holds into a table that is zero; how many pairs are admitted.
@@ -28,12 +25,7 @@ pub fn solve(session: &[u32], table: &mut [u32]) -> u32
     ensures { λ r. ⌜ Solved (now (session .entry)) r (now (table .exit)) ⌝ }
 {
     let nodes = session[1] as usize;
-    let trials = admitted(
-        masks_of(session),
-        values_of(session),
-        samples_of(session),
-        table,
-    );
+    let trials = admitted_pairs(session, table);
     let mut waiting = [4294967295u32; WAITING_WORDS];
     let settled = [0u32; session::MAX_NODES];
     refine_indexed(
@@ -53,16 +45,18 @@ pub fn write_sections(
     masks: &[u16],
     values: &[u16],
     links: &[u32],
+    inverted: u32,
     samples: &[u16],
     starts: &[u32],
     ends: &[u32],
 )
-    requires { ⌜ verdict (loadRules (length (now session)) maxChanges (given (now masks) (now values) (now links) (now samples) (now starts) (now ends))) ≡ 0 ⌝ }
-    ensures { λ r. ⌜ now (session .exit) ≡ image (givenTrigger (given (now (masks .entry)) (now (values .entry)) (now (links .entry)) (now (samples .entry)) (now (starts .entry)) (now (ends .entry)))) (givenGraph (given (now (masks .entry)) (now (values .entry)) (now (links .entry)) (now (samples .entry)) (now (starts .entry)) (now (ends .entry)))) (λ u v. false) ++ drop fixedSize (now (session .entry)) ⌝ }
+    requires { ⌜ verdict (loadRules (length (now session)) maxChanges (given (now masks) (now values) (now links) inverted (now samples) (now starts) (now ends))) ≡ 0 ⌝ }
+    ensures { λ r. ⌜ now (session .exit) ≡ image (givenTrigger (given (now (masks .entry)) (now (values .entry)) (now (links .entry)) inverted (now (samples .entry)) (now (starts .entry)) (now (ends .entry)))) (givenGraph (given (now (masks .entry)) (now (values .entry)) (now (links .entry)) inverted (now (samples .entry)) (now (starts .entry)) (now (ends .entry)))) (λ u v. false) ++ drop fixedSize (now (session .entry)) ⌝ }
 {
     session[0] = masks.len() as u32;
     session[1] = samples.len() as u32;
     session[2] = starts.len() as u32;
+    session[session::INVERTED_AT] = inverted;
     sections::fill_halves(&mut session[session::MASKS_AT..session::VALUES_AT], masks);
     sections::fill_halves(&mut session[session::VALUES_AT..session::LINKS_AT], values);
     sections::fill_words(&mut session[session::LINKS_AT..session::SAMPLES_AT], links);
@@ -78,18 +72,19 @@ pub fn write_sections(
     sections::clear(&mut session[session::MARKS_AT..session::FIXED_SIZE]);
 }
 
-// Loads a trigger and a graph: a list for each field.
+// Loads a trigger and a graph: a list for each field, and the set of inverted states.
 pub fn load(
     session: &mut [u32],
     masks: &[u16],
     values: &[u16],
     links: &[u32],
+    inverted: u32,
     samples: &[u16],
     starts: &[u32],
     ends: &[u32],
     changes: &mut [i32],
 ) -> Answer
-    ensures { λ r. ⌜ Loaded (given (now (masks .entry)) (now (values .entry)) (now (links .entry)) (now (samples .entry)) (now (starts .entry)) (now (ends .entry))) (now (session .entry)) (now (changes .entry)) r (now (session .exit)) (now (changes .exit)) ⌝ }
+    ensures { λ r. ⌜ Loaded (given (now (masks .entry)) (now (values .entry)) (now (links .entry)) inverted (now (samples .entry)) (now (starts .entry)) (now (ends .entry))) (now (session .entry)) (now (changes .entry)) r (now (session .exit)) (now (changes .exit)) ⌝ }
 {
     let broken = load_rule(
         session.len(),
@@ -97,6 +92,7 @@ pub fn load(
         masks,
         values,
         links,
+        inverted,
         samples,
         starts,
         ends,
@@ -104,7 +100,16 @@ pub fn load(
     if broken != 0 {
         return Answer::Refused(broken);
     }
-    write_sections(session, masks, values, links, samples, starts, ends);
+    write_sections(
+        session,
+        masks,
+        values,
+        links,
+        inverted,
+        samples,
+        starts,
+        ends,
+    );
     let before = [0u32; session::MAX_NODES];
     let mut table = [0u32; session::MAX_NODES];
     let trials = solve(session, &mut table);

@@ -8,32 +8,31 @@ use mathlib.Core.Logic.{⊎-elim}
 use mathlib.Core.Bool.{Bool, true, false, _&&_, _||_, cond, and-true, and-false, or-false}
 use mathlib.Core.List.{List}
 use lib.Arith.{digits-mod, digits-div}
-use lib.Bits.{bitAnd, bitOr, bitXor, or-zero-r}
+use lib.Bits.{bitOr, or-zero-r}
 use lib.Dec.{ltb, eqb}
 use lib.ListN.{length, getD, set, length-set}
 use lib.Seq.{getD-set-same, getD-set-other, set-getD}
-use borrow.Author.Tests.{le-ltb, eqb-true, eqb-false, eq-eqb, ne-eqb}
+use borrow.Author.Tests.{le-ltb, eqb-true, eqb-false}
 use Rattle.simulation.specs.Sets.{Set, also, count}
 use Rattle.simulation.proofs.Sets.{split, count-le}
 use Rattle.simulation.proofs.Loops.{count-same, total, count-rows}
 use Rattle.bits.specs.Word.{members}
 use Rattle.bits.proofs.Words.{zero-members, also-members}
 use Rattle.session.specs.Limits.{wordBits, maxNodes}
-use Rattle.session.specs.Trigger.{agrees}
-use Rattle.session.proofs.Admission.{agrees-masked}
+use Rattle.session.specs.Trigger.{accepts}
 use Rattle.pair_tables.specs.Tables.{marked, Admits, Admitted}
 use Rattle.simulation.proofs.Gains.{more-here, more-other, row-more}
 
 -- ---- a state: the nodes below k are seen
 
-module _ (samples : List ℕ) (mask value u : ℕ) (ts : List ℕ) where
-  abbrev agreed : Set
-  agreed v = agrees wordBits mask value (getD samples v 0)
+module _ (samples : List ℕ) (inverted : Bool) (mask value u : ℕ) (ts : List ℕ) where
+  abbrev accepted : Set
+  accepted v = accepts wordBits inverted mask value (getD samples v 0)
 
   pub record Seen (k n : ℕ) (ts' : List ℕ) : Type 0 where
     pub long : length ts' ≡ length ts
-    pub words : (x v : ℕ) → marked ts' x v ≡ (marked ts x v || (eqb x u && (ltb v k && agreed v)))
-    pub counted : n ≡ count k agreed
+    pub words : (x v : ℕ) → marked ts' x v ≡ (marked ts x v || (eqb x u && (ltb v k && accepted v)))
+    pub counted : n ≡ count k accepted
 
   pub seen-start : Seen 0 0 ts
   unfolding count
@@ -43,57 +42,48 @@ module _ (samples : List ℕ) (mask value u : ℕ) (ts : List ℕ) where
     counted = refl;
   }
 
-  pub seen-end : {n : ℕ} {ts' : List ℕ} → Seen (length samples) n ts' → Admits samples mask value u ts n ts'
+  pub seen-end : {n : ℕ} {ts' : List ℕ} → Seen (length samples) n ts' → Admits samples inverted mask value u ts n ts'
   seen-end s = record { long = s .long; words = s .words; counted = s .counted }
 
-  module _ {k n : ℕ} {ts' : List ℕ} (fits : mask < 2 ^ 16) (s : Seen k n ts') where
-    pub seen-take : (w : ℕ) → k < length ts' → bitAnd (bitXor value (getD samples k 0)) mask ≡ 0 → members w ≡ also (members (getD ts' k 0)) u
+  module _ {k n : ℕ} {ts' : List ℕ} (s : Seen k n ts') where
+    seen-take : (w : ℕ) → k < length ts' → accepted k ≡ true → members w ≡ also (members (getD ts' k 0)) u
         → Seen (k + 1) (n + 1) (set ts' k w)
     unfolding count
-    seen-take w l e m = record {
+    seen-take w l taken m = record {
       long = length-set ts' k w ∙ s .long;
       words = λ x v. ⊎-elim (λ (t : eqb v k ≡ true). here x v (eqb-true v k t)) (λ (t : eqb v k ≡ false). away x v (eqb-false v k t)) (split (eqb v k));
       counted = rw (add-one k, taken) (omega (arith, s .counted));
     }
       where
-        taken : agreed k ≡ true
-        taken = sym (agrees-masked wordBits mask value (getD samples k 0) fits) ∙ eq-eqb (bitAnd (bitXor value (getD samples k 0)) mask) 0 e
-
-        here : (x v : ℕ) → v ≡ k → marked (set ts' k w) x v ≡ (marked ts x v || (eqb x u && (ltb v (k + 1) && agreed v)))
+        here : (x v : ℕ) → v ≡ k → marked (set ts' k w) x v ≡ (marked ts x v || (eqb x u && (ltb v (k + 1) && accepted v)))
         here x v q =
             rw (q, getD-set-same ts' k w 0 l, more-here k, taken, ap (λ (X : Set). X x) m, s .words x k, le-ltb k k (omega arith), and-false, or-false, and-true)
 
-        away : (x v : ℕ) → (v ≡ k → ⊥) → marked (set ts' k w) x v ≡ (marked ts x v || (eqb x u && (ltb v (k + 1) && agreed v)))
+        away : (x v : ℕ) → (v ≡ k → ⊥) → marked (set ts' k w) x v ≡ (marked ts x v || (eqb x u && (ltb v (k + 1) && accepted v)))
         away x v q = rw (getD-set-other ts' k v w 0 q, more-other v k q) (s .words x v)
 
-    pub seen-pass : (bitAnd (bitXor value (getD samples k 0)) mask ≡ 0 → ⊥) → Seen (k + 1) n ts'
+    seen-pass : accepted k ≡ false → Seen (k + 1) n ts'
     unfolding count
-    seen-pass e = record {
+    seen-pass left = record {
       long = s .long;
       words = λ x v. ⊎-elim (λ (t : eqb v k ≡ true). here x v (eqb-true v k t)) (λ (t : eqb v k ≡ false). away x v (eqb-false v k t)) (split (eqb v k));
       counted = rw (add-one k, left) (omega (arith, s .counted));
     }
       where
-        left : agreed k ≡ false
-        left = sym (agrees-masked wordBits mask value (getD samples k 0) fits) ∙ ne-eqb (bitAnd (bitXor value (getD samples k 0)) mask) 0 e
-
-        here : (x v : ℕ) → v ≡ k → marked ts' x v ≡ (marked ts x v || (eqb x u && (ltb v (k + 1) && agreed v)))
+        here : (x v : ℕ) → v ≡ k → marked ts' x v ≡ (marked ts x v || (eqb x u && (ltb v (k + 1) && accepted v)))
         here x v q = rw (q, left, and-false) (rw (left, and-false) at (s .words x k))
 
-        away : (x v : ℕ) → (v ≡ k → ⊥) → marked ts' x v ≡ (marked ts x v || (eqb x u && (ltb v (k + 1) && agreed v)))
+        away : (x v : ℕ) → (v ≡ k → ⊥) → marked ts' x v ≡ (marked ts x v || (eqb x u && (ltb v (k + 1) && accepted v)))
         away x v q = rw (more-other v k q) (s .words x v)
 
-    -- one store serves both: a bit that is picked by the test
-    pub seen-step : (bit w more : ℕ) (hit : Bool) → k < length ts' → hit ≡ eqb (bitAnd (bitXor value (getD samples k 0)) mask) 0 → bit ≡ 2 ^ u
+    -- one store serves both: a bit that is chosen by the test
+    pub seen-step : (bit w more : ℕ) (hit : Bool) → k < length ts' → hit ≡ accepted k → bit ≡ 2 ^ u
         → w ≡ cond hit bit 0
         → more ≡ cond hit 1 0
         → Seen (k + 1) (n + more) (set ts' k (bitOr (getD ts' k 0) w))
     seen-step bit w more true l h b p q =
-        rw (p, q, b)
-        (seen-take (bitOr (getD ts' k 0) (2 ^ u)) l (eqb-true (bitAnd (bitXor value (getD samples k 0)) mask) 0 (sym h)) (also-members (getD ts' k 0) u))
-    seen-step bit w more false l h b p q =
-        rw (p, q, or-zero-r (getD ts' k 0), set-getD ts' k 0, add-zero)
-        (seen-pass (eqb-false (bitAnd (bitXor value (getD samples k 0)) mask) 0 (sym h)))
+        rw (p, q, b) (seen-take (bitOr (getD ts' k 0) (2 ^ u)) l (sym h) (also-members (getD ts' k 0) u))
+    seen-step bit w more false l h b p q = rw (p, q, or-zero-r (getD ts' k 0), set-getD ts' k 0, add-zero) (seen-pass (sym h))
 
 -- a picked number is at most that number
 pub picked-le : (test : Bool) (w n : ℕ) → w ≡ cond test n 0 → w ≤ n
@@ -135,9 +125,9 @@ total-swap (suc m) n A =
 
 -- ---- all states: those below k are put in
 
-module _ (masks values samples : List ℕ) where
+module _ (masks values : List ℕ) (inverted : ℕ) (samples : List ℕ) where
   abbrev admits-at : ℕ → ℕ → Bool
-  admits-at u v = agrees wordBits (getD masks u 0) (getD values u 0) (getD samples v 0)
+  admits-at u v = accepts wordBits (members inverted u) (getD masks u 0) (getD values u 0) (getD samples v 0)
 
   abbrev rows : ℕ → ℕ
   rows u = count (length samples) (λ v. admits-at u v)
@@ -147,7 +137,7 @@ module _ (masks values samples : List ℕ) where
     pub words : (u v : ℕ) → marked ts u v ≡ (ltb u k && (ltb v (length samples) && admits-at u v))
     pub counted : n ≡ total k rows
 
-  pub admits-few : {k n : ℕ} {ts ts' : List ℕ} → Admits samples (getD masks k 0) (getD values k 0) k ts n ts' → n ≤ length samples
+  pub admits-few : {k n : ℕ} {ts ts' : List ℕ} → Admits samples (members inverted k) (getD masks k 0) (getD values k 0) k ts n ts' → n ≤ length samples
   admits-few {k} a = omega (arith, a .counted, count-le (length samples) (λ v. admits-at k v))
 
   pub filled-start : {ts : List ℕ} → length ts ≡ maxNodes → ((v : ℕ) → getD ts v 0 ≡ 0) → Filled 0 0 ts
@@ -158,7 +148,7 @@ module _ (masks values samples : List ℕ) where
     counted = refl;
   }
 
-  pub filled-more : {k n n' : ℕ} {ts ts' : List ℕ} → Filled k n ts → Admits samples (getD masks k 0) (getD values k 0) k ts n' ts'
+  pub filled-more : {k n n' : ℕ} {ts ts' : List ℕ} → Filled k n ts → Admits samples (members inverted k) (getD masks k 0) (getD values k 0) k ts n' ts'
       → Filled (k + 1) (n + n') ts'
   unfolding total
   filled-more {k} {n} {n'} {ts} {ts'} s a = record {
@@ -168,7 +158,7 @@ module _ (masks values samples : List ℕ) where
     counted = rw (add-one k) (omega (arith, s .counted, a .counted));
   }
 
-  pub filled-end : {n : ℕ} {ts : List ℕ} → Filled (length masks) n ts → Admitted masks values samples n ts
+  pub filled-end : {n : ℕ} {ts : List ℕ} → Filled (length masks) n ts → Admitted masks values inverted samples n ts
   filled-end s = record {
     long = s .long;
     words = s .words;

@@ -4,22 +4,22 @@ use native.Mathlib.Numerals.{add-one}
 use native.Mathlib.Omega.{arith}
 use mathlib.Core.Path.{_≡_, refl, sym, ap, ap₂, _∙_, fun-ext}
 use mathlib.Core.Logic.{⊎-elim}
-use mathlib.Core.Bool.{Bool, true, false, cond}
+use mathlib.Core.Bool.{Bool, true, false, not, _&&_, cond, Bool·beq}
 use mathlib.Core.List.{List}
 use lib.Arith.{digits-mod, digits-div}
 use lib.Bits.{bitAnd, bitXor}
 use lib.Dec.{ltb, eqb}
 use lib.ListN.{length, getD, set, length-set, List·getD-eq-default}
 use lib.Seq.{getD-set-same, getD-set-other}
-use borrow.Author.Tests.{ltb-false, le-ltb, eqb-true, eqb-false, eq-eqb, ne-eqb}
+use borrow.Author.Tests.{ltb-false, lt-ltb, le-ltb, eqb-true, eqb-false, eq-eqb, ne-eqb}
 use Rattle.simulation.specs.Sets.{Set, count}
-use Rattle.simulation.proofs.Sets.{split, count-le}
+use Rattle.simulation.proofs.Sets.{clash, refuted, split, count-le}
 use Rattle.simulation.proofs.Loops.{count-same, count-beyond, total, count-rows}
 use Rattle.bits.specs.Word.{members}
-use Rattle.bits.proofs.Words.{zero-members}
+use Rattle.bits.proofs.Words.{zero-members, members-below}
 use Rattle.session.specs.Limits.{wordBits}
-use Rattle.session.specs.Trigger.{agrees}
-use Rattle.session.proofs.Admission.{agrees-masked}
+use Rattle.session.specs.Trigger.{agrees, accepts}
+use Rattle.session.proofs.Admission.{agrees-masked, accepts-differs}
 use Rattle.pair_tables.specs.Tables.{marked}
 use Rattle.simulation.proofs.Gains.{more-here, more-other}
 
@@ -32,18 +32,33 @@ pub unmarked : (ts : List ℕ) (u v : ℕ) → length ts ≤ v → marked ts u v
 unmarked ts u v h = ap (λ (w : ℕ). members w u) (List·getD-eq-default ts 0 h) ∙ zero-members u
 
 module _ (masks values : List ℕ) (sample : ℕ) where
-  abbrev pub admitting : Set
-  admitting u = agrees 16 (getD masks u 0) (getD values u 0) sample
+  abbrev pub agreeing : Set
+  agreeing u = agrees wordBits (getD masks u 0) (getD values u 0) sample
 
-  module _ (u : ℕ) (small : getD masks u 0 < 2 ^ 16) where
+  module _ (u : ℕ) (small : getD masks u 0 < 2 ^ wordBits) where
     abbrev tested : ℕ
     tested = bitAnd (bitXor (getD values u 0) sample) (getD masks u 0)
 
-    pub admitting-yes : bitAnd (bitXor (getD values u 0) sample) (getD masks u 0) ≡ 0 → admitting u ≡ true
-    admitting-yes e = sym (agrees-masked wordBits (getD masks u 0) (getD values u 0) sample small) ∙ eq-eqb tested 0 e
+    pub agreeing-yes : bitAnd (bitXor (getD values u 0) sample) (getD masks u 0) ≡ 0 → agreeing u ≡ true
+    agreeing-yes e = sym (agrees-masked wordBits (getD masks u 0) (getD values u 0) sample small) ∙ eq-eqb tested 0 e
 
-    pub admitting-no : (bitAnd (bitXor (getD values u 0) sample) (getD masks u 0) ≡ 0 → ⊥) → admitting u ≡ false
-    admitting-no e = sym (agrees-masked wordBits (getD masks u 0) (getD values u 0) sample small) ∙ ne-eqb tested 0 e
+    pub agreeing-no : (bitAnd (bitXor (getD values u 0) sample) (getD masks u 0) ≡ 0 → ⊥) → agreeing u ≡ false
+    agreeing-no e = sym (agrees-masked wordBits (getD masks u 0) (getD values u 0) sample small) ∙ ne-eqb tested 0 e
+
+  -- those of the first n that agree, turned round where they are inverted
+  pub agreeing-turned : (n inverted : ℕ) (all turned : Set) → inverted < 2 ^ n → all ≡ (λ u. ltb u n && agreeing u)
+      → turned ≡ (λ u. not (Bool·beq (all u) (members inverted u)))
+      → turned ≡ (λ u. ltb u n && accepts wordBits (members inverted u) (getD masks u 0) (getD values u 0) sample)
+  agreeing-turned n inverted all turned few e d =
+      fun-ext
+      (λ u.
+      ap (λ (X : Set). X u) d
+      ∙ ap (λ (X : Set). not (Bool·beq (X u) (members inverted u))) e
+      ∙ ⊎-elim
+      (λ (l : ltb u n ≡ true). rw l (accepts-differs wordBits (members inverted u) (getD masks u 0) (getD values u 0) sample))
+      (λ (l : ltb u n ≡ false).
+      rw (l, refuted (members inverted u) (λ m. clash (lt-ltb u n (members-below n inverted few u m)) l)))
+      (split (ltb u n)))
 
 -- ---- the words below k are changed: each pair by its mark in either table
 

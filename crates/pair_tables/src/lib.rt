@@ -1,7 +1,7 @@
 // Tables of pairs, a word of states for each node: those that are admitted, tables put together and taken away, pairs counted.
 ghost use mathlib.Core.Path.{_≡_};
-ghost use mathlib.Core.Bool.{true, not, _&&_, _||_};
-ghost use Prim.Native.Nat.{ℕ, _^_, _<_, _≤_, _*_, _/_, _%_};
+ghost use mathlib.Core.Bool.{Bool, true, not, _&&_, _||_, cond};
+ghost use Prim.Native.Nat.{ℕ, _-_, _^_, _<_, _≤_, _*_, _/_, _%_};
 ghost use lib.ListN.{length, getD};
 ghost use Rattle.session.specs.Limits.{maxNodes, maxStates, wordBits};
 ghost use Rattle.session.specs.Layout.{below};
@@ -9,45 +9,87 @@ ghost use Rattle.pair_tables.specs.Tables.{Admits, Admitted};
 ghost use lib.Dec.{ltb};
 ghost use Rattle.simulation.specs.Sets.{count};
 ghost use Rattle.bits.specs.Word.{members};
-ghost use Rattle.session.specs.Trigger.{agrees};
+ghost use Rattle.session.specs.Trigger.{accepts};
 ghost use Rattle.pair_tables.specs.Tables.{marked};
 
-// Puts a state into the words of the nodes that it admits; how many they are. Each word is stored, so there is no branch.
-pub fn admit(samples: &[u32], mask: u32, value: u32, u: u32, table: &mut [u32]) -> u32
+// Puts a state into the words of the nodes where a mask and a value agree with the sample, or, with a turn of every bit, where they do not; how many they
+// are. Each word is stored, so there is no branch.
+pub fn put_turned(
+    samples: &[u32],
+    turn: u32,
+    mask: u32,
+    value: u32,
+    u: u32,
+    table: &mut [u32],
+) -> u32
     requires { ⌜ (mask < 2 ^ wordBits) × (u < 32) × (length (now samples) ≤ length (now table)) × (length (now samples) ≤ maxNodes) ⌝ }
-    ensures { λ r. ⌜ Admits (now (samples .entry)) mask value u (now (table .entry)) r (now (table .exit)) ⌝ }
+    requires { ⌜ ((b : Bool) × (turn ≡ cond b (2 ^ 32 - 1) 0)) ⌝ }
+    ensures { λ r. ⌜ ((b : Bool) → turn ≡ cond b (2 ^ 32 - 1) 0 → Admits (now (samples .entry)) b mask value u (now (table .entry)) r (now (table .exit))) ⌝ }
 {
     let bit = bits::only(u);
     let mut count = 0;
     let mut v = 0;
     while v < samples.len() {
         let hit = (value ^ samples[v]) & mask == 0;
-        table[v] = table[v] | bits::picked(bit, hit);
-        count += bits::picked(1, hit);
+        table[v] = table[v] | bits::chosen(bit, hit, turn);
+        count += bits::chosen(1, hit, turn);
         v += 1;
     }
     count
 }
 
+// Puts a state into the words of the nodes that it admits; how many they are. The turn is known at each call, so that neither loop spends an operation on it.
+pub fn admit(
+    samples: &[u32],
+    inverted: bool,
+    mask: u32,
+    value: u32,
+    u: u32,
+    table: &mut [u32],
+) -> u32
+    requires { ⌜ (mask < 2 ^ wordBits) × (u < 32) × (length (now samples) ≤ length (now table)) × (length (now samples) ≤ maxNodes) ⌝ }
+    ensures { λ r. ⌜ Admits (now (samples .entry)) inverted mask value u (now (table .entry)) r (now (table .exit)) ⌝ }
+{
+    if inverted {
+        put_turned(samples, bits::ALL, mask, value, u, table)
+    } else {
+        put_turned(samples, 0, mask, value, u, table)
+    }
+}
+
 // Fills a table that is zero with the admitted pairs; how many they are.
-pub fn admitted(masks: &[u32], values: &[u32], samples: &[u32], table: &mut [u32]) -> u32
+pub fn admitted(
+    masks: &[u32],
+    values: &[u32],
+    inverted: u32,
+    samples: &[u32],
+    table: &mut [u32],
+) -> u32
     requires { ⌜ (length (now values) ≡ length (now masks)) × (length (now masks) ≤ maxStates) × (length (now samples) ≤ maxNodes) × (length (now table) ≡ maxNodes) ⌝ }
     requires { ⌜ (below (2 ^ wordBits) (now masks) ≡ true) × ((v : ℕ) → getD (now table) v 0 ≡ 0) ⌝ }
-    ensures { λ r. ⌜ Admitted (now (masks .entry)) (now (values .entry)) (now (samples .entry)) r (now (table .exit)) ⌝ }
+    ensures { λ r. ⌜ Admitted (now (masks .entry)) (now (values .entry)) inverted (now (samples .entry)) r (now (table .exit)) ⌝ }
 {
     let mut count = 0;
     let mut u = 0;
     while u < masks.len() {
-        count += admit(samples, masks[u], values[u], u as u32, table);
+        count += admit(
+            samples,
+            bits::has(inverted, u as u32),
+            masks[u],
+            values[u],
+            u as u32,
+            table,
+        );
         u += 1;
     }
     count
 }
 
-// The states that admit a sample.
-pub fn admitted_at(masks: &[u32], values: &[u32], sample: u32) -> u32
+// The states that admit a sample: those that agree with it, turned round where they are inverted.
+pub fn admitted_at(masks: &[u32], values: &[u32], inverted: u32, sample: u32) -> u32
     requires { ⌜ (length (now values) ≡ length (now masks)) × (length (now masks) ≤ maxStates) × (below (2 ^ wordBits) (now masks) ≡ true) ⌝ }
-    ensures { λ r. ⌜ members r ≡ (λ u. ltb u (length (now (masks .entry))) && agrees wordBits (getD (now (masks .entry)) u 0) (getD (now (values .entry)) u 0) sample) ⌝ }
+    requires { ⌜ inverted < 2 ^ length (now masks) ⌝ }
+    ensures { λ r. ⌜ members r ≡ (λ u. ltb u (length (now (masks .entry))) && accepts wordBits (members inverted u) (getD (now (masks .entry)) u 0) (getD (now (values .entry)) u 0) sample) ⌝ }
 {
     let mut all = 0;
     let mut u = 0;
@@ -57,7 +99,7 @@ pub fn admitted_at(masks: &[u32], values: &[u32], sample: u32) -> u32
         }
         u += 1;
     }
-    all
+    bits::differing(all, inverted)
 }
 
 // Takes the pairs of another table out.

@@ -58,7 +58,8 @@ module _ (memory room : ℕ) (x : Given) (ok : verdict (loadRules memory room x)
   -- the rules that were passed, one by one
   record Passed : Type 0 where
     memory-fits : ltb memory fixedSize || ltb room maxChanges ≡ false
-    states-fit : ((eqb n 0 || ltb maxStates n) || (not (eqb (length (x .values)) n) || not (eqb (length (x .links)) n))) ≡ false
+    states-fit : ((eqb n 0 || ltb maxStates n)
+        || ((not (eqb (length (x .values)) n) || not (eqb (length (x .links)) n)) || not (ltb (x .inverted) (2 ^ n)))) ≡ false
     links-fit : not (below (2 ^ n) (x .links)) ≡ false
     nodes-fit : ltb maxNodes (length (x .samples)) ≡ false
     edges-fit : (ltb maxEdges e || not (eqb (length (x .ends)) e)) ≡ false
@@ -91,10 +92,13 @@ module _ (memory room : ℕ) (x : Given) (ok : verdict (loadRules memory room x)
   load-room = ltb-false room maxChanges (or-false-r (ltb memory fixedSize) (ltb room maxChanges) (passed .memory-fits))
 
   states-whole : ((eqb n 0 || ltb maxStates n) ≡ false) × ((not (eqb (length (x .values)) n) || not (eqb (length (x .links)) n)) ≡ false)
+      × (not (ltb (x .inverted) (2 ^ n)) ≡ false)
   states-whole =
       let few = eqb n 0 || ltb maxStates n in
       let whole = not (eqb (length (x .values)) n) || not (eqb (length (x .links)) n) in
-      (or-false-l few whole (passed .states-fit), or-false-r few whole (passed .states-fit))
+      let turned = not (ltb (x .inverted) (2 ^ n)) in
+      let rest = or-false-r few (whole || turned) (passed .states-fit) in
+      (or-false-l few (whole || turned) (passed .states-fit), or-false-l whole turned rest, or-false-r whole turned rest)
 
   -- how long the memory and the lists are
   pub load-counts : (fixedSize ≤ memory) × (length (x .masks) ≤ maxStates)
@@ -122,6 +126,7 @@ module _ (memory room : ℕ) (x : Given) (ok : verdict (loadRules memory room x)
     masks-fit = masks;
     values-fit = values;
     links-fit = not-false (below (2 ^ n) (x .links)) (passed .links-fit);
+    inverted-fit = ltb-true (x .inverted) (2 ^ n) (not-false (ltb (x .inverted) (2 ^ n)) (states-whole .2));
   }
     where
       positive : (k : ℕ) → (k ≡ 0 → ⊥) → 1 ≤ k
@@ -225,7 +230,7 @@ module _ (b : Model) (tf : TriggerFacts (b .trigger)) (gf : GraphFacts (b .graph
         (
           or-none
               (or-none (ne-eqb n 0 (λ z. absurd (omega (arith, tf .some)))) (le-ltb maxStates n (tf .few)))
-              (or-none (ap not (eq-eqb _ n (tf .values))) (ap not (eq-eqb _ n (tf .links)))),
+              (or-none (or-none (ap not (eq-eqb _ n (tf .values))) (ap not (eq-eqb _ n (tf .links)))) (ap not (lt-ltb (b .trigger .inverted) (2 ^ n) (tf .inverted-fit)))),
           (
             ap not (tf .links-fit),
             (

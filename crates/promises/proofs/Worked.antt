@@ -1,6 +1,6 @@
 -- Cases computed from the definitions alone, beside those of the crate cases: a ring of three closed by one edge, a pair tried and dropped, and
 -- rules that are broken together.
-use Prim.Native.Nat.{ℕ, zero, suc}
+use Prim.Native.Nat.{ℕ, zero, suc, _-_}
 use mathlib.Core.Path.{_≡_, refl}
 use mathlib.Core.Bool.{Bool, true, false, _&&_, _||_}
 use mathlib.Core.List.{List, [], _∷_, map}
@@ -13,7 +13,7 @@ use Rattle.simulation.specs.Pattern.{best}
 use Rattle.simulation.specs.Ordered.{elem, insert, remove, joins}
 use Rattle.bits.specs.Word.{word}
 use Rattle.session.specs.Limits.{maxEdges, maxChanges, fixedSize}
-use Rattle.session.specs.Trigger.{Trigger, Graph, nodes, linked, edge, edgeNumber, admits, agrees}
+use Rattle.session.specs.Trigger.{Trigger, Graph, nodes, linked, edge, edgeNumber, agrees, accepts, admits}
 use Rattle.session.specs.Layout.{table, markWord, below, inLayout}
 use Rattle.listing.specs.Changes.{joinTo, changes}
 use Rattle.listing.specs.Order.{fold, visit, order}
@@ -44,15 +44,15 @@ answer (edit k t g a b) =
 
 -- 01's session: two states linked to each other, each admitting its own node
 two : Trigger
-two = record { masks = 0xFFFF ∷ 0xFFFF ∷ []; values = 1 ∷ 2 ∷ []; links = 2 ∷ 1 ∷ [] }
+two = record { masks = 0xFFFF ∷ 0xFFFF ∷ []; values = 1 ∷ 2 ∷ []; links = 2 ∷ 1 ∷ []; inverted = 0 }
 
 -- one state linked to itself that admits every node
 self : Trigger
-self = record { masks = 0 ∷ []; values = 0xFF ∷ []; links = 1 ∷ [] }
+self = record { masks = 0 ∷ []; values = 0xFF ∷ []; links = 1 ∷ []; inverted = 0 }
 
 -- State One linked to itself and to state 3, which links back to it; state 2 is not reached
 three : Trigger
-three = record { masks = 0 ∷ 0 ∷ 0 ∷ []; values = 0 ∷ 0 ∷ 0 ∷ []; links = 5 ∷ 1 ∷ 1 ∷ [] }
+three = record { masks = 0 ∷ 0 ∷ 0 ∷ []; values = 0 ∷ 0 ∷ 0 ∷ []; links = 5 ∷ 1 ∷ 1 ∷ []; inverted = 0 }
 
 graph : List ℕ → List ℕ → Graph
 graph samples edges = record { samples = samples; edges = edges }
@@ -79,7 +79,7 @@ told =
     ∷ []
 
 worked : map answer rows ≡ told
-unfolding answer judge rows told self graph verdict insert remove joins elem edge linked admits agrees fires stands best
+unfolding answer judge rows told self graph verdict insert remove joins elem edge linked admits accepts agrees fires stands best
     greatest supported shrunk down anyBelow allBelow count changes joinTo trialSet closure grown up reaches
 worked = refl
 
@@ -92,25 +92,26 @@ worked-orders = refl
 many : ℕ → List ℕ
 many n = table n (λ i. i)
 
-given : List ℕ → List ℕ → List ℕ → List ℕ → List ℕ → Given
-given masks links samples starts ends =
-    record { masks = masks; values = masks; links = links; samples = samples; starts = starts; ends = ends }
+given : List ℕ → List ℕ → ℕ → List ℕ → List ℕ → List ℕ → Given
+given masks links inverted samples starts ends =
+    record { masks = masks; values = masks; links = links; inverted = inverted; samples = samples; starts = starts; ends = ends }
 
 load-verdicts : List ℕ
 load-verdicts =
-    verdict (loadRules 3122 8192 (given [] [] [] [] []))
-    ∷ verdict (loadRules fixedSize 8191 (given [] [] [] [] []))
-    ∷ verdict (loadRules fixedSize 8192 (given [] (2 ∷ []) [] [] []))
-    ∷ verdict (loadRules fixedSize 8192 (given (many 17) (131072 ∷ many 16) [] [] []))
-    ∷ verdict (loadRules fixedSize 8192 (given (0 ∷ []) (2 ∷ []) (many 513) [] []))
-    ∷ verdict (loadRules fixedSize 8192 (given (0 ∷ []) (1 ∷ []) (many 513) (0 ∷ []) []))
-    ∷ verdict (loadRules fixedSize 8192 (given (0 ∷ []) (1 ∷ []) (0 ∷ []) (1 ∷ 0 ∷ []) (0 ∷ [])))
-    ∷ verdict (loadRules fixedSize 8192 (given (0 ∷ []) (1 ∷ []) (0 ∷ []) (0 ∷ 0 ∷ []) (1 ∷ 0 ∷ [])))
-    ∷ verdict (loadRules fixedSize 8192 (given (0 ∷ []) (1 ∷ []) (0 ∷ 0 ∷ []) (0 ∷ 0 ∷ []) (1 ∷ 0 ∷ [])))
-    ∷ verdict (loadRules fixedSize 8192 (given (0 ∷ []) (1 ∷ []) (0 ∷ 0 ∷ []) (0 ∷ 0 ∷ []) (0 ∷ 1 ∷ [])))
+    verdict (loadRules (fixedSize - 1) maxChanges (given [] [] 0 [] [] []))
+    ∷ verdict (loadRules fixedSize (maxChanges - 1) (given [] [] 0 [] [] []))
+    ∷ verdict (loadRules fixedSize maxChanges (given [] (2 ∷ []) 0 [] [] []))
+    ∷ verdict (loadRules fixedSize maxChanges (given (many 17) (131072 ∷ many 16) 0 [] [] []))
+    ∷ verdict (loadRules fixedSize maxChanges (given (0 ∷ []) (2 ∷ []) 2 [] [] []))
+    ∷ verdict (loadRules fixedSize maxChanges (given (0 ∷ []) (2 ∷ []) 1 (many 513) [] []))
+    ∷ verdict (loadRules fixedSize maxChanges (given (0 ∷ []) (1 ∷ []) 0 (many 513) (0 ∷ []) []))
+    ∷ verdict (loadRules fixedSize maxChanges (given (0 ∷ []) (1 ∷ []) 0 (0 ∷ []) (1 ∷ 0 ∷ []) (0 ∷ [])))
+    ∷ verdict (loadRules fixedSize maxChanges (given (0 ∷ []) (1 ∷ []) 0 (0 ∷ []) (0 ∷ 0 ∷ []) (1 ∷ 0 ∷ [])))
+    ∷ verdict (loadRules fixedSize maxChanges (given (0 ∷ []) (1 ∷ []) 0 (0 ∷ 0 ∷ []) (0 ∷ 0 ∷ []) (1 ∷ 0 ∷ [])))
+    ∷ verdict (loadRules fixedSize maxChanges (given (0 ∷ []) (1 ∷ []) 1 (0 ∷ 0 ∷ []) (0 ∷ 0 ∷ []) (0 ∷ 1 ∷ [])))
     ∷ []
 
-worked-loads : load-verdicts ≡ 3 ∷ 3 ∷ 4 ∷ 4 ∷ 5 ∷ 6 ∷ 7 ∷ 8 ∷ 9 ∷ 0 ∷ []
+worked-loads : load-verdicts ≡ 3 ∷ 3 ∷ 4 ∷ 4 ∷ 4 ∷ 5 ∷ 6 ∷ 7 ∷ 8 ∷ 9 ∷ 0 ∷ []
 unfolding load-verdicts given many table verdict below allBelow
 worked-loads = refl
 
@@ -158,5 +159,5 @@ unfolding both two-nodes graph
 worked-edges = refl
 
 worked-marks : map (markWord two both (stands two both)) (0 ∷ 1 ∷ 2 ∷ []) ≡ 1 ∷ 2 ∷ 0 ∷ []
-unfolding both two two-nodes graph markWord word stands best greatest supported shrunk down anyBelow allBelow linked edge joins elem admits agrees
+unfolding both two two-nodes graph markWord word stands best greatest supported shrunk down anyBelow allBelow linked edge joins elem admits accepts agrees
 worked-marks = refl

@@ -45,6 +45,7 @@ freshly b = record {
   masks = b .trigger .masks;
   values = b .trigger .values;
   links = b .trigger .links;
+  inverted = b .trigger .inverted;
   samples = b .graph .samples;
   starts = map (λ e. e / maxNodes) (b .graph .edges);
   ends = map (λ e. e % maxNodes) (b .graph .edges);

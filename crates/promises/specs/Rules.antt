@@ -21,21 +21,22 @@ unfoldable pub verdict : List Rule → ℕ
 verdict [] = 0
 verdict (r ∷ rs) = cond (r .broken) (r .number) (verdict rs)
 
--- what a load is given: a list for each field
+-- what a load is given: a list for each field, and the set of inverted states
 pub record Given : Type 0 where
   pub masks : List ℕ
   pub values : List ℕ
   pub links : List ℕ
+  pub inverted : ℕ
   pub samples : List ℕ
   pub starts : List ℕ
   pub ends : List ℕ
 
-abbrev pub given : List ℕ → List ℕ → List ℕ → List ℕ → List ℕ → List ℕ → Given
-given masks values links samples starts ends =
-    record { masks = masks; values = values; links = links; samples = samples; starts = starts; ends = ends }
+abbrev pub given : List ℕ → List ℕ → List ℕ → ℕ → List ℕ → List ℕ → List ℕ → Given
+given masks values links inverted samples starts ends =
+    record { masks = masks; values = values; links = links; inverted = inverted; samples = samples; starts = starts; ends = ends }
 
 abbrev pub givenTrigger : Given → Trigger
-givenTrigger x = record { masks = x .masks; values = x .values; links = x .links }
+givenTrigger x = record { masks = x .masks; values = x .values; links = x .links; inverted = x .inverted }
 
 abbrev pub givenGraph : Given → Graph
 givenGraph x = record { samples = x .samples; edges = numbered (x .starts) (x .ends) }
@@ -44,13 +45,13 @@ givenGraph x = record { samples = x .samples; edges = numbered (x .starts) (x .e
 abbrev pub precedes : ℕ → ℕ → ℕ → ℕ → Bool
 precedes a b c d = ltb a c || (eqb a c && ltb b d)
 
--- rules 3 to 9, of a load into `memory` words and `room` places
+-- rules 3 to 9, of a load into `memory` words and `room` places; of an inverted state that is not among the states only a part is given
 abbrev pub loadRules : ℕ → ℕ → Given → List Rule
 loadRules memory room x =
     let n = length (x .masks) in
     let e = length (x .starts) in
     rule 3 (ltb memory fixedSize || ltb room maxChanges)
-    ∷ rule 4 ((eqb n 0 || ltb maxStates n) || (not (eqb (length (x .values)) n) || not (eqb (length (x .links)) n)))
+    ∷ rule 4 ((eqb n 0 || ltb maxStates n) || ((not (eqb (length (x .values)) n) || not (eqb (length (x .links)) n)) || not (ltb (x .inverted) (2 ^ n))))
     ∷ rule 5 (not (below (2 ^ n) (x .links)))
     ∷ rule 6 (ltb maxNodes (length (x .samples)))
     ∷ rule 7 (ltb maxEdges e || not (eqb (length (x .ends)) e))

@@ -11,13 +11,13 @@ use Rattle.simulation.proofs.Edges.{all-same}
 use Rattle.bits.specs.Word.{members}
 use Rattle.bits.proofs.Gathers.{gathers}
 use Rattle.session.specs.Limits.{wordBits}
-use Rattle.session.specs.Trigger.{agrees}
+use Rattle.session.specs.Trigger.{accepts}
 use Rattle.session.specs.Tests.{sparse}
-use Rattle.session.proofs.Admission.{agrees-part}
+use Rattle.session.proofs.Admission.{accepts-part}
 
--- a mark of u at v, where the mask and the value do not admit the sample
-abbrev pub stray : List ℕ → List ℕ → ℕ → ℕ → ℕ → Set
-stray samples marks mask value v u = members (getD marks v 0) u && not (agrees wordBits mask value (getD samples v 0))
+-- a mark of u at v, where a state with this mask and value, inverted or not, does not admit the sample
+abbrev pub stray : List ℕ → List ℕ → Bool → ℕ → ℕ → ℕ → Set
+stray samples marks inverted mask value v u = members (getD marks v 0) u && not (accepts wordBits inverted mask value (getD samples v 0))
 
 not-and : (a b : Bool) → not (a && not b) ≡ (not a || b)
 not-and true true = refl
@@ -25,34 +25,34 @@ not-and true false = refl
 not-and false b = refl
 
 -- a state has none just where its marks are admitted
-pub sparse-stray : (samples marks : List ℕ) (mask value all u : ℕ) → members all ≡ gathers (length marks) (stray samples marks mask value)
-    → not (members all u) ≡ sparse samples marks mask value u
+pub sparse-stray : (samples marks : List ℕ) (inverted : Bool) (mask value all u : ℕ) → members all ≡ gathers (length marks) (stray samples marks inverted mask value)
+    → not (members all u) ≡ sparse samples marks inverted mask value u
 unfolding sparse
-sparse-stray samples marks mask value all u e =
+sparse-stray samples marks inverted mask value all u e =
     ap (λ (X : Set). not (X u)) e
-    ∙ not-any (length marks) (λ v. stray samples marks mask value v u)
-    ∙ all-same (length marks) (λ v. not (stray samples marks mask value v u))
-    (λ v. not (members (getD marks v 0) u) || agrees wordBits mask value (getD samples v 0))
-    (λ v l. not-and (members (getD marks v 0) u) (agrees wordBits mask value (getD samples v 0)))
+    ∙ not-any (length marks) (λ v. stray samples marks inverted mask value v u)
+    ∙ all-same (length marks) (λ v. not (stray samples marks inverted mask value v u))
+    (λ v. not (members (getD marks v 0) u) || accepts wordBits inverted mask value (getD samples v 0))
+    (λ v l. not-and (members (getD marks v 0) u) (accepts wordBits inverted mask value (getD samples v 0)))
 
 -- with the part of the value inside the mask
-pub sparse-part : (samples marks : List ℕ) (mask value u : ℕ) → mask < 2 ^ wordBits
-    → sparse samples marks mask (bitAnd value mask) u ≡ sparse samples marks mask value u
+pub sparse-part : (samples marks : List ℕ) (inverted : Bool) (mask value u : ℕ) → mask < 2 ^ wordBits
+    → sparse samples marks inverted mask (bitAnd value mask) u ≡ sparse samples marks inverted mask value u
 unfolding sparse
-sparse-part samples marks mask value u h =
-    all-same (length marks) (λ v. not (members (getD marks v 0) u) || agrees wordBits mask (bitAnd value mask) (getD samples v 0))
-    (λ v. not (members (getD marks v 0) u) || agrees wordBits mask value (getD samples v 0))
-    (λ v l. ap (λ (b : Bool). not (members (getD marks v 0) u) || b) (agrees-part wordBits mask value (getD samples v 0) h))
+sparse-part samples marks inverted mask value u h =
+    all-same (length marks) (λ v. not (members (getD marks v 0) u) || accepts wordBits inverted mask (bitAnd value mask) (getD samples v 0))
+    (λ v. not (members (getD marks v 0) u) || accepts wordBits inverted mask value (getD samples v 0))
+    (λ v l. ap (λ (b : Bool). not (members (getD marks v 0) u) || b) (accepts-part wordBits inverted mask value (getD samples v 0) h))
 
 -- and so are those of a state that has none at all
-pub sparse-none : (samples marks : List ℕ) (mask value used u : ℕ) → members used ≡ gathers (length marks) (λ v. members (getD marks v 0))
+pub sparse-none : (samples marks : List ℕ) (inverted : Bool) (mask value used u : ℕ) → members used ≡ gathers (length marks) (λ v. members (getD marks v 0))
     → members used u ≡ false
-    → sparse samples marks mask value u ≡ true
+    → sparse samples marks inverted mask value u ≡ true
 unfolding sparse
-sparse-none samples marks mask value used u e h =
-    all-make (length marks) (λ v. not (members (getD marks v 0) u) || agrees wordBits mask value (getD samples v 0))
+sparse-none samples marks inverted mask value used u e h =
+    all-make (length marks) (λ v. not (members (getD marks v 0) u) || accepts wordBits inverted mask value (getD samples v 0))
     (λ v l.
-    or-l (agrees wordBits mask value (getD samples v 0))
+    or-l (accepts wordBits inverted mask value (getD samples v 0))
     (not-make
     (refuted (members (getD marks v 0) u)
     (λ m. clash (ap (λ (X : Set). X u) e ∙ any-make (length marks) (λ v. members (getD marks v 0) u) v l m) h))))

@@ -1,6 +1,6 @@
 // Tests of sections: the size of words, zeros where a section is unused, edges that ascend and name nodes, marks at admitted pairs alone.
 ghost use mathlib.Core.Path.{_≡_};
-ghost use mathlib.Core.Bool.{true, _&&_, not};
+ghost use mathlib.Core.Bool.{Bool, true, _&&_, not, cond};
 ghost use Prim.Native.Nat.{_-_, _^_, _≤_, _<_};
 ghost use lib.Dec.{eqb};
 ghost use lib.ListN.{length, getD};
@@ -11,8 +11,9 @@ ghost use Rattle.session.specs.Tests.{fits, allNamed, sparse};
 ghost use lib.Bits.{bitAnd};
 ghost use Rattle.simulation.specs.Sets.{allBelow, anyBelow};
 ghost use Rattle.session.specs.Limits.{maxNodes, wordBits};
-ghost use Rattle.session.specs.Trigger.{agrees};
-use bits::picked_half;
+ghost use Rattle.session.specs.Trigger.{accepts};
+use bits::ALL_HALF;
+use bits::chosen_half;
 use sections::narrow;
 
 // Whether each word is below the limit.
@@ -94,27 +95,47 @@ pub fn all_named(edges: &[u32], nodes: u32) -> bool
     faults == 0
 }
 
-// The marks at nodes whose sample the mask and the value do not admit. The value lies inside the mask.
-pub fn strays(samples: &[u16], marks: &[u16], mask: u16, value: u16) -> u16
+// The marks at nodes whose sample does not agree with the mask and the value, or, with a turn of every bit, does. The value lies inside the mask.
+pub fn strays_turned(samples: &[u16], marks: &[u16], turn: u16, mask: u16, value: u16) -> u16
     requires { ⌜ (length (now samples) ≡ length (now marks)) × (mask < 2 ^ wordBits) ⌝ }
     requires { ⌜ bitAnd value mask ≡ value ⌝ }
-    ensures { λ r. ⌜ members r ≡ (λ u. anyBelow (length (now (marks .entry))) (λ v. members (getD (now (marks .entry)) v 0) u && not (agrees wordBits mask value (getD (now (samples .entry)) v 0)))) ⌝ }
+    ensures { λ r. ⌜ ((b : Bool) → turn ≡ cond b (2 ^ 16 - 1) 0 → members r ≡ (λ u. anyBelow (length (now (marks .entry))) (λ v. members (getD (now (marks .entry)) v 0) u && not (accepts wordBits b mask value (getD (now (samples .entry)) v 0))))) ⌝ }
 {
     let mut all: u16 = 0;
     let mut v = 0;
     while v < marks.len() {
-        all = all | picked_half(marks[v], samples[v] & mask != value);
+        all = all | chosen_half(marks[v], samples[v] & mask != value, turn);
         v += 1;
     }
     all
 }
 
+// The marks at nodes that a state does not admit. The turn is known at each call, so that neither loop spends an operation on it.
+pub fn strays(samples: &[u16], marks: &[u16], inverted: bool, mask: u16, value: u16) -> u16
+    requires { ⌜ (length (now samples) ≡ length (now marks)) × (mask < 2 ^ wordBits) ⌝ }
+    requires { ⌜ bitAnd value mask ≡ value ⌝ }
+    ensures { λ r. ⌜ members r ≡ (λ u. anyBelow (length (now (marks .entry))) (λ v. members (getD (now (marks .entry)) v 0) u && not (accepts wordBits inverted mask value (getD (now (samples .entry)) v 0)))) ⌝ }
+{
+    if inverted {
+        strays_turned(samples, marks, ALL_HALF, mask, value)
+    } else {
+        strays_turned(samples, marks, 0, mask, value)
+    }
+}
+
 // Whether each mark is at a node that its state admits. A state that has no mark is passed over.
-pub fn all_sparse(masks: &[u32], values: &[u32], samples: &[u16], marks: &[u16], used: u32) -> bool
+pub fn all_sparse(
+    masks: &[u32],
+    values: &[u32],
+    inverted: u32,
+    samples: &[u16],
+    marks: &[u16],
+    used: u32,
+) -> bool
     requires { ⌜ (length (now samples) ≡ length (now marks)) × (length (now values) ≡ length (now masks)) × (length (now masks) ≤ 32) ⌝ }
     requires { ⌜ below (2 ^ wordBits) (now masks) ≡ true ⌝ }
     requires { ⌜ members used ≡ (λ u. anyBelow (length (now marks)) (λ v. members (getD (now marks) v 0) u)) ⌝ }
-    ensures { λ r. ⌜ r ≡ allBelow (length (now (masks .entry))) (λ u. sparse (now (samples .entry)) (now (marks .entry)) (getD (now (masks .entry)) u 0) (getD (now (values .entry)) u 0) u) ⌝ }
+    ensures { λ r. ⌜ r ≡ allBelow (length (now (masks .entry))) (λ u. sparse (now (samples .entry)) (now (marks .entry)) (members inverted u) (getD (now (masks .entry)) u 0) (getD (now (values .entry)) u 0) u) ⌝ }
 {
     let mut faults: u32 = 0;
     let mut u = 0;
@@ -122,7 +143,8 @@ pub fn all_sparse(masks: &[u32], values: &[u32], samples: &[u16], marks: &[u16],
         if bits::has(used, u as u32) {
             let mask = masks[u];
             let wanted = values[u] & mask;
-            let stray = strays(samples, marks, mask as u16, wanted as u16);
+            let turned = bits::has(inverted, u as u32);
+            let stray = strays(samples, marks, turned, mask as u16, wanted as u16);
             if bits::has(stray as u32, u as u32) {
                 faults = 1;
             }
@@ -136,6 +158,7 @@ pub fn all_sparse(masks: &[u32], values: &[u32], samples: &[u16], marks: &[u16],
 pub fn all_admitted(
     masks: &[u32],
     values: &[u32],
+    inverted: u32,
     samples: &[u32],
     marks: &[u32],
     used: u32,
@@ -144,7 +167,7 @@ pub fn all_admitted(
     requires { ⌜ below (2 ^ wordBits) (now masks) ≡ true ⌝ }
     requires { ⌜ (below (2 ^ wordBits) (now samples) ≡ true) × (below (2 ^ wordBits) (now marks) ≡ true) × (length (now marks) ≤ maxNodes) ⌝ }
     requires { ⌜ members used ≡ (λ u. anyBelow (length (now marks)) (λ v. members (getD (now marks) v 0) u)) ⌝ }
-    ensures { λ r. ⌜ r ≡ allBelow (length (now (masks .entry))) (λ u. sparse (now (samples .entry)) (now (marks .entry)) (getD (now (masks .entry)) u 0) (getD (now (values .entry)) u 0) u) ⌝ }
+    ensures { λ r. ⌜ r ≡ allBelow (length (now (masks .entry))) (λ u. sparse (now (samples .entry)) (now (marks .entry)) (members inverted u) (getD (now (masks .entry)) u 0) (getD (now (values .entry)) u 0) u) ⌝ }
 {
     if used == 0 {
         return true;
@@ -154,5 +177,12 @@ pub fn all_admitted(
     narrow(&mut words[..nodes], samples);
     let mut signs = [0u16; session::MAX_NODES];
     narrow(&mut signs[..nodes], marks);
-    all_sparse(masks, values, &words[..nodes], &signs[..nodes], used)
+    all_sparse(
+        masks,
+        values,
+        inverted,
+        &words[..nodes],
+        &signs[..nodes],
+        used,
+    )
 }

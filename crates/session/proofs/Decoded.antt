@@ -33,6 +33,7 @@ use Rattle.session.proofs.Image.{
   states-word,
   nodes-word,
   edges-word,
+  inverted-word,
   mask-word,
   value-word,
   link-word,
@@ -78,7 +79,7 @@ module _ (t : Trigger) (g : Graph) (m : Marks) (rest : List ℕ) where
   -- each part is read back
   pub trigger-image : TriggerFacts t → triggerOf (image t g m ++ rest) ≡ t
   unfolding triggerOf
-  trigger-image f = λ i. record { masks = masks i; values = values i; links = links i }
+  trigger-image f = λ i. record { masks = masks i; values = values i; links = links i; inverted = inverted-word t g m rest i }
     where
       all : List ℕ
       all = image t g m ++ rest

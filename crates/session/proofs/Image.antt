@@ -8,6 +8,7 @@ use Rattle.session.specs.Limits.{
   maxStates,
   maxNodes,
   maxEdges,
+  invertedAt,
   masksAt,
   valuesAt,
   linksAt,
@@ -45,7 +46,7 @@ module _ (t : Trigger) (g : Graph) (m : Marks) where
     pub front-image : (i : ℕ) → i < fixedSize → getD (image t g m ++ rest) i 0 ≡ getD (image t g m) i 0
     front-image i h = List·getD-append (image t g m) rest 0 i (rw length-image h)
 
-    -- ---- the three counts
+    -- ---- the three counts and the inverted states
 
     pub states-word : getD (image t g m ++ rest) 0 0 ≡ states t
     unfolding image
@@ -58,6 +59,10 @@ module _ (t : Trigger) (g : Graph) (m : Marks) where
     pub edges-word : getD (image t g m ++ rest) 2 0 ≡ length (g .edges)
     unfolding image
     edges-word = refl
+
+    pub inverted-word : getD (image t g m ++ rest) invertedAt 0 ≡ t .inverted
+    unfolding image
+    inverted-word = refl
 
     -- ---- the sections, each with what follows it
 

@@ -11,7 +11,7 @@ use borrow.Author.Tests.{lt-ltb}
 use Rattle.simulation.proofs.Sets.{clash, same, and-make, and-r, refuted}
 use Rattle.bits.specs.Word.{members, word}
 use Rattle.bits.proofs.Words.{same-members, word-members, zero-members}
-use Rattle.session.specs.Limits.{maxStates, maxNodes, maxEdges, marksAt, fixedSize}
+use Rattle.session.specs.Limits.{maxStates, maxNodes, maxEdges, invertedAt, masksAt, marksAt, fixedSize}
 use Rattle.session.specs.Trigger.{Trigger, Graph, Marks, states, nodes}
 use Rattle.session.specs.Layout.{table, section, markWord, image}
 use Rattle.session.proofs.Tables.{length-section, table-of, table-same}
@@ -22,7 +22,7 @@ use Rattle.session.proofs.Image.{drop-image}
 -- the sections before the marks
 unfoldable pub front : Trigger → Graph → List ℕ
 front t g =
-    (states t ∷ nodes g ∷ length (g .edges) ∷ [])
+    (states t ∷ nodes g ∷ length (g .edges) ∷ t .inverted ∷ [])
     ++ section maxStates (t .masks)
     ++ section maxStates (t .values)
     ++ section maxStates (t .links)
@@ -87,12 +87,14 @@ no-marks t g =
 
 -- ---- section after section
 
--- the three counts
-pub write-counts : (ys : List ℕ) (a b c : ℕ) → 3 ≤ length ys → set (set (set ys 0 a) 1 b) 2 c ≡ (a ∷ b ∷ c ∷ []) ++ drop 3 ys
-write-counts [] a b c l = absurd (omega arith)
-write-counts (x ∷ []) a b c l = absurd (omega arith)
-write-counts (x ∷ y ∷ []) a b c l = absurd (omega arith)
-write-counts (x ∷ y ∷ z ∷ ys) a b c l = refl
+-- the three counts and the inverted states
+pub write-counts : (ys : List ℕ) (a b c d : ℕ) → masksAt ≤ length ys
+    → set (set (set (set ys 0 a) 1 b) 2 c) invertedAt d ≡ (a ∷ b ∷ c ∷ d ∷ []) ++ drop masksAt ys
+write-counts [] a b c d l = absurd (omega arith)
+write-counts (x ∷ []) a b c d l = absurd (omega arith)
+write-counts (x ∷ y ∷ []) a b c d l = absurd (omega arith)
+write-counts (x ∷ y ∷ z ∷ []) a b c d l = absurd (omega arith)
+write-counts (w ∷ x ∷ y ∷ z ∷ ys) a b c d l = refl
 
 -- a section of k places is written from the place p on, in a memory that begins with what is written
 pub put-section : (ys xs written part : List ℕ) (p k : ℕ) → xs ≡ written ++ drop p ys → length written ≡ p → length part ≡ k

@@ -43,6 +43,7 @@ pub record TriggerFacts (t : Trigger) : Type 0 where
   pub masks-fit : below (2 ^ wordBits) (t .masks) ≡ true
   pub values-fit : below (2 ^ wordBits) (t .values) ≡ true
   pub links-fit : below (2 ^ states t) (t .links) ≡ true
+  pub inverted-fit : t .inverted < 2 ^ states t
 
 module _ (t : Trigger) where
   -- the test, and back
@@ -56,13 +57,15 @@ module _ (t : Trigger) where
       let c1 = below (2 ^ wordBits) (t .masks) in
       let c2 = below (2 ^ wordBits) (t .values) in
       let c3 = below (2 ^ states t) (t .links) in
+      let c4 = ltb (t .inverted) (2 ^ states t) in
       let b = b1 && b2 in
-      let c = (c1 && c2) && c3 in
+      let c = (c1 && c2) && (c3 && c4) in
       let ha = and-l (a1 && a2) (b && c) h in
       let hbc = and-r (a1 && a2) (b && c) h in
       let hb = and-l b c hbc in
       let hc = and-r b c hbc in
-      let hcc = and-l (c1 && c2) c3 hc in
+      let hcc = and-l (c1 && c2) (c3 && c4) hc in
+      let hcd = and-r (c1 && c2) (c3 && c4) hc in
       record {
         some = leb-true 1 (states t) (and-l a1 a2 ha);
         few = leb-true (states t) maxStates (and-r a1 a2 ha);
@@ -70,7 +73,8 @@ module _ (t : Trigger) where
         links = eqb-true (length (t .links)) (states t) (and-r b1 b2 hb);
         masks-fit = and-l c1 c2 hcc;
         values-fit = and-r c1 c2 hcc;
-        links-fit = and-r (c1 && c2) c3 hc;
+        links-fit = and-l c3 c4 hcd;
+        inverted-fit = ltb-true (t .inverted) (2 ^ states t) (and-r c3 c4 hcd);
       }
 
   pub trigger-valid : TriggerFacts t → validTrigger t ≡ true
@@ -79,7 +83,8 @@ module _ (t : Trigger) where
       and-make (and-make (le-leb 1 (states t) (f .some)) (le-leb (states t) maxStates (f .few)))
       (and-make
       (and-make (eq-eqb (length (t .values)) (states t) (f .values)) (eq-eqb (length (t .links)) (states t) (f .links)))
-      (and-make (and-make (f .masks-fit) (f .values-fit)) (f .links-fit)))
+      (and-make (and-make (f .masks-fit) (f .values-fit))
+      (and-make (f .links-fit) (lt-ltb (t .inverted) (2 ^ states t) (f .inverted-fit)))))
 
   -- a link leads to a state of the trigger
   pub linked-inside : TriggerFacts t → (u u' : ℕ) → linked t u u' ≡ true → u' < states t

@@ -12,6 +12,7 @@ use Rattle.session.specs.Limits.{
   maxNodes,
   maxEdges,
   wordBits,
+  invertedAt,
   masksAt,
   valuesAt,
   linksAt,
@@ -42,7 +43,7 @@ markWord t g m v = word (states t) (λ u. ltb v (nodes g) && m u v)
 -- the fixed part of a session that holds this trigger, this graph and these marks
 unfoldable pub image : Trigger → Graph → Marks → List ℕ
 image t g m =
-    (states t ∷ nodes g ∷ length (g .edges) ∷ [])
+    (states t ∷ nodes g ∷ length (g .edges) ∷ t .inverted ∷ [])
     ++ (section maxStates (t .masks)
     ++ (section maxStates (t .values)
     ++ (section maxStates (t .links)
@@ -54,7 +55,8 @@ part xs at n = take n (drop at xs)
 
 unfoldable pub triggerOf : List ℕ → Trigger
 triggerOf xs =
-    let n = getD xs 0 0 in record { masks = part xs masksAt n; values = part xs valuesAt n; links = part xs linksAt n }
+    let n = getD xs 0 0 in
+    record { masks = part xs masksAt n; values = part xs valuesAt n; links = part xs linksAt n; inverted = getD xs invertedAt 0 }
 
 unfoldable pub graphOf : List ℕ → Graph
 graphOf xs = record { samples = part xs samplesAt (getD xs 1 0); edges = part xs edgesAt (getD xs 2 0) }
@@ -66,12 +68,13 @@ marksOf xs u v = ltb u (getD xs 0 0) && (ltb v (getD xs 1 0) && members (getD xs
 unfoldable pub below : ℕ → List ℕ → Bool
 below n xs = allBelow (length xs) (λ i. ltb (getD xs i 0) n)
 
--- "its counts and numbers keep these limits, links stay inside the trigger"
+-- "its counts and numbers keep these limits, links stay inside the trigger", and so do the inverted states
 unfoldable pub validTrigger : Trigger → Bool
 validTrigger t =
     (leb 1 (states t) && leb (states t) maxStates)
     && ((eqb (length (t .values)) (states t) && eqb (length (t .links)) (states t))
-    && ((below (2 ^ wordBits) (t .masks) && below (2 ^ wordBits) (t .values)) && below (2 ^ states t) (t .links)))
+    && ((below (2 ^ wordBits) (t .masks) && below (2 ^ wordBits) (t .values))
+    && (below (2 ^ states t) (t .links) && ltb (t .inverted) (2 ^ states t))))
 
 -- the edge e joins two nodes of the graph
 unfoldable pub names : Graph → ℕ → Bool

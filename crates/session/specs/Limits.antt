@@ -18,9 +18,12 @@ wordBits = 16
 abbrev pub maxChanges : ℕ
 maxChanges = maxNodes * maxStates
 
--- the numbers of states, nodes and edges, then the sections
+-- the numbers of states, nodes and edges, the inverted states, then the sections
+abbrev pub invertedAt : ℕ
+invertedAt = 3
+
 abbrev pub masksAt : ℕ
-masksAt = 3
+masksAt = invertedAt + 1
 
 abbrev pub valuesAt : ℕ
 valuesAt = masksAt + maxStates

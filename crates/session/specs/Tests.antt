@@ -7,8 +7,8 @@ use lib.ListN.{length, getD}
 use Rattle.simulation.specs.Sets.{allBelow}
 use Rattle.simulation.specs.Ordered.{ascends}
 use Rattle.bits.specs.Word.{members}
-use Rattle.session.specs.Limits.{maxStates, maxNodes, maxEdges, wordBits, masksAt, valuesAt, linksAt, samplesAt, edgesAt, marksAt}
-use Rattle.session.specs.Trigger.{agrees}
+use Rattle.session.specs.Limits.{maxStates, maxNodes, maxEdges, wordBits, invertedAt, masksAt, valuesAt, linksAt, samplesAt, edgesAt, marksAt}
+use Rattle.session.specs.Trigger.{accepts}
 use Rattle.session.specs.Layout.{part, below}
 
 -- a section: the words before `used` are below 2 ^ k, and those from it on are zero
@@ -19,16 +19,16 @@ fits k used xs = allBelow (length xs) (λ i. ltb (getD xs i 0) (cond (ltb i used
 unfoldable pub allNamed : ℕ → List ℕ → Bool
 allNamed nodes es = allBelow (length es) (λ k. ltb (getD es k 0 / maxNodes) nodes && ltb (getD es k 0 % maxNodes) nodes)
 
--- no mark of the state u is at a sample that its mask and value do not admit
-unfoldable pub sparse : List ℕ → List ℕ → ℕ → ℕ → ℕ → Bool
-sparse samples marks mask value u =
-    allBelow (length marks) (λ v. not (members (getD marks v 0) u) || agrees wordBits mask value (getD samples v 0))
+-- no mark of the state u, inverted or not, is at a sample that its mask and value do not admit
+unfoldable pub sparse : List ℕ → List ℕ → Bool → ℕ → ℕ → ℕ → Bool
+sparse samples marks inverted mask value u =
+    allBelow (length marks) (λ v. not (members (getD marks v 0) u) || accepts wordBits inverted mask value (getD samples v 0))
 
 -- the layout test of a memory that is long enough, with n states, m nodes and e edges: each section, then what it says of the others
 unfoldable pub triggerTest : List ℕ → ℕ → Bool
 triggerTest xs n =
     fits wordBits n (part xs masksAt maxStates)
-    && (fits wordBits n (part xs valuesAt maxStates) && fits n n (part xs linksAt maxStates))
+    && (fits wordBits n (part xs valuesAt maxStates) && (fits n n (part xs linksAt maxStates) && ltb (getD xs invertedAt 0) (2 ^ n)))
 
 unfoldable pub graphTest : List ℕ → ℕ → ℕ → Bool
 graphTest xs m e =
@@ -39,4 +39,6 @@ unfoldable pub marksTest : List ℕ → ℕ → ℕ → Bool
 marksTest xs n m =
     fits n m (part xs marksAt maxNodes)
     && allBelow n
-    (λ u. sparse (part xs samplesAt m) (part xs marksAt m) (getD (part xs masksAt n) u 0) (getD (part xs valuesAt n) u 0) u)
+    (λ u.
+    sparse (part xs samplesAt m) (part xs marksAt m) (members (getD xs invertedAt 0) u) (getD (part xs masksAt n) u 0)
+    (getD (part xs valuesAt n) u 0) u)

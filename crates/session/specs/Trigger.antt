@@ -1,6 +1,6 @@
 -- 01, "Trigger, graph, session". A state is known by its index: state u + 1 of 01 has the index u.
 use Prim.Native.Nat.{ℕ, _+_, _*_}
-use mathlib.Core.Bool.{Bool, not, _||_}
+use mathlib.Core.Bool.{Bool, not, _||_, cond}
 use mathlib.Core.List.{List}
 use lib.Dec.{eqb}
 use lib.ListN.{length, getD}
@@ -10,11 +10,13 @@ use Rattle.simulation.specs.Pattern.{Pattern, plain}
 use Rattle.bits.specs.Word.{bit, members}
 use Rattle.session.specs.Limits.{maxNodes, wordBits}
 
--- "A state has a mask and a value, 16 bits each, and a set of links to states": one entry a state in each list; link set bit i is for index i
+-- "A state has a mask and a value, 16 bits each, and a set of links to states": one entry a state in each list; link set bit i is for index i.
+-- 02, Job 1, "A state may be inverted": the set of those that are, bit i for index i
 pub record Trigger : Type 0 where
   pub masks : List ℕ
   pub values : List ℕ
   pub links : List ℕ
+  pub inverted : ℕ
 
 -- "A graph has .. nodes, .. each with a 16-bit sample word": one sample a node; edges as numbers, ascending
 pub record Graph : Type 0 where
@@ -53,9 +55,13 @@ withoutEdge g a b = record { samples = g .samples; edges = remove (edgeNumber a 
 unfoldable pub agrees : ℕ → ℕ → ℕ → ℕ → Bool
 agrees k mask value sample = allBelow k (λ i. not (members mask i) || eqb (bit value i) (bit sample i))
 
+-- "it then admits exactly the nodes that its plain form does not": the plain agreement, turned round where the state is inverted
+unfoldable pub accepts : ℕ → Bool → ℕ → ℕ → ℕ → Bool
+accepts k inverted mask value sample = cond inverted (not (agrees k mask value sample)) (agrees k mask value sample)
+
 -- "State u admits node v"
 unfoldable pub admits : Trigger → Graph → ℕ → ℕ → Bool
-admits t g u v = agrees wordBits (getD (t .masks) u 0) (getD (t .values) u 0) (getD (g .samples) v 0)
+admits t g u v = accepts wordBits (members (t .inverted) u) (getD (t .masks) u 0) (getD (t .values) u 0) (getD (g .samples) v 0)
 
 -- what is simulated: a link is carried by one edge
 abbrev pub pattern : Trigger → Graph → Pattern

@@ -13,16 +13,18 @@ pub const WORD_BITS: u32 = 16;
 
 pub const MAX_CHANGES: usize = 8192;
 
-pub const MASKS_AT: usize = 3;
+pub const INVERTED_AT: usize = 3;
 
-pub const VALUES_AT: usize = 19;
+pub const MASKS_AT: usize = 4;
 
-pub const LINKS_AT: usize = 35;
+pub const VALUES_AT: usize = 20;
 
-pub const SAMPLES_AT: usize = 51;
+pub const LINKS_AT: usize = 36;
 
-pub const EDGES_AT: usize = 563;
+pub const SAMPLES_AT: usize = 52;
 
-pub const MARKS_AT: usize = 2611;
+pub const EDGES_AT: usize = 564;
 
-pub const FIXED_SIZE: usize = 3123;
+pub const MARKS_AT: usize = 2612;
+
+pub const FIXED_SIZE: usize = 3124;

@@ -1,13 +1,18 @@
-// The parts of a session that is in layout, and its marks stored.
-ghost use Prim.Native.Nat.{_+_, _≤_};
+// The parts of a session that is in layout, what it admits, and its marks stored.
+ghost use Prim.Native.Nat.{ℕ, _+_, _<_, _≤_};
 ghost use mathlib.Core.Path.{_≡_};
 ghost use mathlib.Core.Bool.{true};
-ghost use lib.ListN.{take, drop, length};
+ghost use lib.ListN.{take, drop, length, getD};
 ghost use Rattle.session.specs.Limits.{marksAt, maxNodes, fixedSize};
 ghost use Rattle.session.specs.Layout.{part, triggerOf, graphOf, inLayout, image};
 ghost use mathlib.Core.List.{_++_};
 ghost use Rattle.pair_tables.specs.Tables.{marked};
+ghost use Rattle.session.specs.Trigger.{nodes};
+ghost use Rattle.bits.specs.Word.{members};
 ghost use Rattle.session_parts.specs.Inside.{Inside};
+ghost use Rattle.session_parts.specs.Admission.{admittedAt, AdmittedPairs};
+use pair_tables::admitted;
+use pair_tables::admitted_at;
 
 // The part of a memory that begins at a place and has so many words.
 pub fn part_of(session: &[u32], at: usize, used: usize) -> &[u32]
@@ -39,6 +44,14 @@ pub fn links_of(session: &[u32]) -> &[u32]
     part_of(session, session::LINKS_AT, session[0] as usize)
 }
 
+// The set of inverted states.
+pub fn inverted_of(session: &[u32]) -> u32
+    requires { ⌜ inLayout (now session) ≡ true ⌝ }
+    ensures { λ r. ⌜ r ≡ triggerOf (now (session .entry)) .inverted ⌝ }
+{
+    session[session::INVERTED_AT]
+}
+
 pub fn samples_of(session: &[u32]) -> &[u32]
     requires { ⌜ inLayout (now session) ≡ true ⌝ }
     ensures { λ r. ⌜ now r ≡ graphOf (now (session .entry)) .samples ⌝ }
@@ -59,6 +72,34 @@ pub fn marks_of(session: &[u32]) -> &[u32]
     ensures { λ r. ⌜ now r ≡ take maxNodes (drop marksAt (now (session .entry))) ⌝ }
 {
     &session[session::MARKS_AT..session::FIXED_SIZE]
+}
+
+// Fills a table that is zero with the admitted pairs; how many they are.
+pub fn admitted_pairs(session: &[u32], table: &mut [u32]) -> u32
+    requires { ⌜ (inLayout (now session) ≡ true) × (length (now table) ≡ maxNodes) × ((v : ℕ) → getD (now table) v 0 ≡ 0) ⌝ }
+    ensures { λ r. ⌜ AdmittedPairs (now (session .entry)) r (now (table .exit)) ⌝ }
+{
+    admitted(
+        masks_of(session),
+        values_of(session),
+        inverted_of(session),
+        samples_of(session),
+        table,
+    )
+}
+
+// The states that admit a node.
+pub fn admitting(session: &[u32], node: u32) -> u32
+    requires { ⌜ (inLayout (now session) ≡ true) × (node < nodes (graphOf (now session))) ⌝ }
+    ensures { λ r. ⌜ members r ≡ admittedAt (now (session .entry)) node ⌝ }
+{
+    let samples = samples_of(session);
+    admitted_at(
+        masks_of(session),
+        values_of(session),
+        inverted_of(session),
+        samples[node as usize],
+    )
 }
 
 // Writes a table to the session as its marks.

@@ -18,13 +18,14 @@ use Rattle.simulation.proofs.Ordered.{elem-index}
 use Rattle.simulation.proofs.Edges.{elem-joins}
 use Rattle.bits.specs.Word.{members, overlaps}
 use Rattle.session.specs.Limits.{maxNodes, marksAt}
-use Rattle.session.specs.Trigger.{Trigger, Graph, Marks, states, nodes, linked, admits, agrees, edge, pattern}
+use Rattle.session.specs.Trigger.{Trigger, Graph, Marks, states, nodes, linked, admits, edge, pattern}
 use Rattle.session.specs.Layout.{triggerOf, graphOf, marksOf, inLayout}
 use Rattle.session.proofs.Decoded.{LayoutFacts, layout-facts}
 use Rattle.pair_tables.specs.Tables.{marked}
 use Rattle.links.specs.Links.{linksTo}
 use Rattle.edge_indexes.specs.Indexes.{endsAt}
 use Rattle.promises.specs.Standing.{pairsOf, fresh, trialSet}
+use Rattle.session_parts.specs.Admission.{admittedAt}
 use Rattle.session_parts.proofs.Parts.{held-marks}
 use Rattle.editing.specs.Steps.{Holds, freshPairs, seedsOf, freshAmong, aloneAt}
 use Rattle.trials.proofs.Trying.{seeded}
@@ -44,21 +45,14 @@ module _ (xs : List ℕ) (h : inLayout xs ≡ true) where
 
   -- ---- the states of a word that are fresh at a node, as the words there tell them
 
-  pub fresh-met : (masks values samples ms : List ℕ) → masks ≡ triggerOf xs .masks → values ≡ triggerOf xs .values → samples ≡ graphOf xs .samples
-      → ms ≡ take 512 (drop marksAt xs) → (word v able new : ℕ)
-      → members able ≡ (λ u. ltb u (length masks) && agrees 16 (getD masks u 0) (getD values u 0) (getD samples v 0))
+  pub fresh-met : (ms : List ℕ) → ms ≡ take maxNodes (drop marksAt xs) → (word v able new : ℕ) → members able ≡ admittedAt xs v
       → members new ≡ minus (members able) (members (getD ms v 0)) → overlaps word new ≡ freshAmong xs word v
-  unfolding admits
-  fresh-met masks values samples ms masks-is values-is samples-is ms-is word v able new able-is new-is =
-      ap (λ (X : Set). anyBelow 32 (λ u. members word u && X u)) (fun-ext at)
+  fresh-met ms ms-is word v able new able-is new-is = ap (λ (X : Set). anyBelow 32 (λ u. members word u && X u)) (fun-ext at)
     where
-      able-at : (u : ℕ) → members able u ≡ (ltb u (states (triggerOf xs)) && admits (triggerOf xs) (graphOf xs) u v)
-      able-at u = rw (masks-is, values-is, samples-is) at (ap (λ (X : Set). X u) able-is)
-
       at : (u : ℕ) → members new u ≡ (ltb u (states (triggerOf xs)) && fresh (triggerOf xs) (graphOf xs) (marksOf xs) u v)
       at u =
           ap (λ (X : Set). X u) new-is
-          ∙ ap₂ (λ (x : Bool) (m : Marks). x && not (m u v)) (able-at u) (ap marked ms-is ∙ held-marks xs h)
+          ∙ ap₂ (λ (x : Bool) (m : Marks). x && not (m u v)) (ap (λ (X : Set). X u) able-is) (ap marked ms-is ∙ held-marks xs h)
           ∙ and-assoc (ltb u (states t)) (admits t g u v) (not (marksOf xs u v))
 
   -- ---- the first k edges: none that ends at a starts where a state of the word is fresh

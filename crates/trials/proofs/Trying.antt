@@ -18,17 +18,19 @@ use Rattle.simulation.proofs.System.{extensional, closure-seed, closure-step, c
 use Rattle.simulation.proofs.Pattern.{pair-inside, paired-pair, node-inside, state-inside}
 use Rattle.bits.specs.Word.{members}
 use Rattle.bits.proofs.Words.{zero-members, and-members}
-use Rattle.session.specs.Limits.{wordBits, marksAt}
-use Rattle.session.specs.Trigger.{Trigger, Graph, Marks, states, nodes, linked, admits, agrees, pattern}
+use Rattle.session.specs.Limits.{maxNodes, marksAt}
+use Rattle.session.specs.Trigger.{Trigger, Graph, Marks, states, nodes, linked, admits, pattern}
 use Rattle.session.specs.Layout.{triggerOf, graphOf, marksOf, inLayout}
 use Rattle.session.proofs.Decoded.{LayoutFacts, layout-facts}
 use Rattle.links.specs.Links.{linksTo}
-use Rattle.pair_tables.specs.Tables.{marked, Admitted}
+use Rattle.pair_tables.specs.Tables.{marked}
 use Rattle.worklist.specs.Waiting.{waits}
 use Rattle.growth.specs.Growth.{Grown}
 use Rattle.promises.specs.Standing.{pairsOf, fresh, trialSet}
 use Rattle.refinement.proofs.Systems.{same-states, closure-pattern}
+use Rattle.session_parts.specs.Admission.{admittedAt, AdmittedPairs}
 use Rattle.session_parts.proofs.Parts.{held-marks}
+use Rattle.session_parts.proofs.Admitted.{admitted-take, admitted-make}
 use Rattle.editing.specs.Steps.{Holds, freshPairs, seedsOf}
 
 module _ (xs : List ℕ) (h : inLayout xs ≡ true) where
@@ -46,38 +48,27 @@ module _ (xs : List ℕ) (h : inLayout xs ≡ true) where
 
   -- ---- the fresh pairs
 
-  module _ (masks values samples : List ℕ) (masks-is : masks ≡ triggerOf xs .masks) (values-is : values ≡ triggerOf xs .values)
-      (samples-is : samples ≡ graphOf xs .samples) (r : ℕ) (ts : List ℕ) (admitted : Admitted masks values samples r ts)
-      (fs : List ℕ) (long : length fs ≡ length ts) (less : (u v : ℕ) → marked fs u v ≡ (marked ts u v && not (marked (take 512 (drop marksAt xs)) u v))) where
-    here : Admitted (triggerOf xs .masks) (triggerOf xs .values) (graphOf xs .samples) r ts
-    here = rw (masks-is, values-is, samples-is) at admitted
-
+  module _ (r : ℕ) (ts : List ℕ) (admitted : AdmittedPairs xs r ts) (fs : List ℕ) (long : length fs ≡ length ts)
+      (less : (u v : ℕ) → marked fs u v ≡ (marked ts u v && not (marked (take maxNodes (drop marksAt xs)) u v))) where
     fresh-is : (u v : ℕ) → marked fs u v ≡ (marked ts u v && not (marksOf xs u v))
     fresh-is u v = less u v ∙ ap (λ (m : Marks). marked ts u v && not (m u v)) (held-marks xs h)
 
     fresh-take : (u v : ℕ) → marked fs u v ≡ true → (u < states (triggerOf xs)) × (v < nodes (graphOf xs)) × (fresh (triggerOf xs) (graphOf xs) (marksOf xs) u v ≡ true)
-    unfolding admits
     fresh-take u v e =
         let both = sym (fresh-is u v) ∙ e in
-        let fit = agrees wordBits (getD (t .masks) u 0) (getD (t .values) u 0) (getD (g .samples) v 0) in
-        let a = sym (here .words u v) ∙ and-l (marked ts u v) (not (marksOf xs u v)) both in
-        let b = and-r (ltb u n) (ltb v (nodes g) && fit) a in (
-          ltb-true u n (and-l (ltb u n) (ltb v (nodes g) && fit) a),
-          ltb-true v (nodes g) (and-l (ltb v (nodes g)) fit b),
-          and-make (and-r (ltb v (nodes g)) fit b) (and-r (marked ts u v) (not (marksOf xs u v)) both),
-        )
+        let i = admitted-take xs admitted u v (and-l (marked ts u v) (not (marksOf xs u v)) both) in
+        (i .0, i .1, and-make (i .2) (and-r (marked ts u v) (not (marksOf xs u v)) both))
 
     fresh-make : (u v : ℕ) → u < states (triggerOf xs) → v < nodes (graphOf xs) → fresh (triggerOf xs) (graphOf xs) (marksOf xs) u v ≡ true → marked fs u v ≡ true
-    unfolding admits
     fresh-make u v l k e =
         fresh-is u v
         ∙ and-make
-        (here .words u v ∙ and-make (lt-ltb u n l) (and-make (lt-ltb v (nodes g) k) (and-l (admits t g u v) (not (marksOf xs u v)) e)))
+        (admitted-make xs admitted u v l k (and-l (admits t g u v) (not (marksOf xs u v)) e))
         (and-r (admits t g u v) (not (marksOf xs u v)) e)
 
     pub fresh-held : Holds xs (freshPairs xs) fs
     fresh-held = record {
-      long = long ∙ here .long;
+      long = long ∙ admitted .long;
       inside = λ u v e. let i = fresh-take u v e in (i .0, i .1);
       pairs = λ p l.
           same (marked fs (p % n) (p / n)) (fresh t g (marksOf xs) (p % n) (p / n)) (λ e. fresh-take (p % n) (p / n) e .2)
@@ -86,21 +77,15 @@ module _ (xs : List ℕ) (h : inLayout xs ≡ true) where
 
   -- ---- the seeds, as the words of the edge's ends tell them
 
-  module _ (a b : ℕ) (masks values samples links ms : List ℕ) (masks-is : masks ≡ triggerOf xs .masks) (values-is : values ≡ triggerOf xs .values)
-      (samples-is : samples ≡ graphOf xs .samples) (links-is : links ≡ triggerOf xs .links) (ms-is : ms ≡ take 512 (drop marksAt xs))
-      (at-end able at-start new : ℕ)
-      (end-is : members at-end ≡ (λ u. ltb u (length masks) && agrees 16 (getD masks u 0) (getD values u 0) (getD samples b 0)))
-      (able-is : members able ≡ linksTo links at-end)
-      (start-is : members at-start ≡ (λ u. ltb u (length masks) && agrees 16 (getD masks u 0) (getD values u 0) (getD samples a 0)))
-      (new-is : members new ≡ minus (members at-start) (members (getD ms a 0))) where
+  module _ (a b : ℕ) (links ms : List ℕ) (links-is : links ≡ triggerOf xs .links) (ms-is : ms ≡ take maxNodes (drop marksAt xs))
+      (at-end able at-start new : ℕ) (end-is : members at-end ≡ admittedAt xs b) (able-is : members able ≡ linksTo links at-end)
+      (start-is : members at-start ≡ admittedAt xs a) (new-is : members new ≡ minus (members at-start) (members (getD ms a 0))) where
     -- the states that admit a node
     end-admits : (u : ℕ) → members at-end u ≡ (ltb u (states (triggerOf xs)) && admits (triggerOf xs) (graphOf xs) u b)
-    unfolding admits
-    end-admits u = rw (masks-is, values-is, samples-is) at (ap (λ (X : Set). X u) end-is)
+    end-admits u = ap (λ (X : Set). X u) end-is
 
     start-admits : (u : ℕ) → members at-start u ≡ (ltb u (states (triggerOf xs)) && admits (triggerOf xs) (graphOf xs) u a)
-    unfolding admits
-    start-admits u = rw (masks-is, values-is, samples-is) at (ap (λ (X : Set). X u) start-is)
+    start-admits u = ap (λ (X : Set). X u) start-is
 
     new-fresh : (u : ℕ) → members new u ≡ ((ltb u (states (triggerOf xs)) && admits (triggerOf xs) (graphOf xs) u a) && not (marksOf xs u a))
     new-fresh u =

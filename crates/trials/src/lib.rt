@@ -22,16 +22,13 @@ use growth::grow;
 use links::CALLERS;
 use links::index_callers;
 use links::linking;
-use pair_tables::admitted;
-use pair_tables::admitted_at;
 use pair_tables::take_away;
 use refinement::refine;
+use session_parts::admitted_pairs;
+use session_parts::admitting;
 use session_parts::edges_of;
 use session_parts::links_of;
 use session_parts::marks_of;
-use session_parts::masks_of;
-use session_parts::samples_of;
-use session_parts::values_of;
 use worklist::WAITING_WORDS;
 use worklist::call_all;
 use worklist::put_in;
@@ -41,13 +38,10 @@ pub fn seeds_at(session: &[u32], start: u32, end: u32) -> u32
     requires { ⌜ (inLayout (now session) ≡ true) × (start < nodes (graphOf (now session))) × (end < nodes (graphOf (now session))) ⌝ }
     ensures { λ r. ⌜ members r ≡ seedsOf (now (session .entry)) start end ⌝ }
 {
-    let masks = masks_of(session);
-    let values = values_of(session);
-    let samples = samples_of(session);
     let marks = marks_of(session);
-    let at_end = admitted_at(masks, values, samples[end as usize]);
+    let at_end = admitting(session, end);
     let able = linking(links_of(session), at_end);
-    let at_start = admitted_at(masks, values, samples[start as usize]);
+    let at_start = admitting(session, start);
     able & bits::difference(at_start, marks[start as usize])
 }
 
@@ -56,12 +50,7 @@ pub fn fresh_pairs(session: &[u32], table: &mut [u32])
     requires { ⌜ (inLayout (now session) ≡ true) × (length (now table) ≡ maxNodes) × ((v : ℕ) → getD (now table) v 0 ≡ 0) ⌝ }
     ensures { λ r. ⌜ Holds (now (session .entry)) (freshPairs (now (session .entry))) (now (table .exit)) ⌝ }
 {
-    admitted(
-        masks_of(session),
-        values_of(session),
-        samples_of(session),
-        table,
-    );
+    admitted_pairs(session, table);
     take_away(table, marks_of(session));
 }
 
@@ -101,13 +90,8 @@ pub fn fresh_among(session: &[u32], word: u32, node: u32) -> bool
     requires { ⌜ (inLayout (now session) ≡ true) × (node < nodes (graphOf (now session))) ⌝ }
     ensures { λ r. ⌜ r ≡ freshAmong (now (session .entry)) word node ⌝ }
 {
-    let samples = samples_of(session);
     let marks = marks_of(session);
-    let able = admitted_at(
-        masks_of(session),
-        values_of(session),
-        samples[node as usize],
-    );
+    let able = admitting(session, node);
     bits::meet(word, bits::difference(able, marks[node as usize]))
 }
 

@@ -28,25 +28,27 @@ pub extern "C" fn trigger_change_places() -> usize
     session::MAX_CHANGES
 }
 
-// Loads a trigger and a graph: a list for each field.
+// Loads a trigger and a graph: a list for each field, and the set of inverted states.
 #[no_mangle]
 pub extern "C" fn trigger_load(
     session: &mut [u32],
     masks: &[u16],
     values: &[u16],
     links: &[u32],
+    inverted: u32,
     samples: &[u16],
     starts: &[u32],
     ends: &[u32],
     changes: &mut [i32],
 ) -> u64
-    ensures { λ r. ⌜ Packs answerNumber (λ a. Loaded (given (now (masks .entry)) (now (values .entry)) (now (links .entry)) (now (samples .entry)) (now (starts .entry)) (now (ends .entry))) (now (session .entry)) (now (changes .entry)) a (now (session .exit)) (now (changes .exit))) r ⌝ }
+    ensures { λ r. ⌜ Packs answerNumber (λ a. Loaded (given (now (masks .entry)) (now (values .entry)) (now (links .entry)) inverted (now (samples .entry)) (now (starts .entry)) (now (ends .entry))) (now (session .entry)) (now (changes .entry)) a (now (session .exit)) (now (changes .exit))) r ⌝ }
 {
     answer_number(matching::load(
         session,
         masks,
         values,
         links,
+        inverted,
         samples,
         starts,
         ends,

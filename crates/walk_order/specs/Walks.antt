@@ -14,7 +14,7 @@ use Rattle.walk_order.specs.declared.Walk.{Walk}
 
 -- a trigger with these links: the depth-first order depends on nothing else
 abbrev pub linkedBy : List ℕ → Trigger
-linkedBy links = record { masks = links; values = links; links = links }
+linkedBy links = record { masks = links; values = links; links = links; inverted = 0 }
 
 -- the walk holds this list of indices: their set, their numbers with zeros after them, and how many they are
 pub record WalkOf (xs : List ℕ) (w : Walk) : Type 0 where

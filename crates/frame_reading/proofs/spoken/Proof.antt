@@ -22,6 +22,9 @@ edge-frame-requires-2 c κs = search needs
 bare-frame-requires-2 : tie.Need-bare-frame-requires-2
 bare-frame-requires-2 c κs = search needs
 
+state-frame-requires-2 : tie.Need-state-frame-requires-2
+state-frame-requires-2 c κs = search needs
+
 returns : tie.Need-returns
 returns c = rw (c .before .match .keys1) (c .state-frame .ensures)
 
@@ -41,7 +44,10 @@ returns-6 : tie.Need-returns-6
 returns-6 c = rw (c .before .match .keys6) (c .bare-frame2 .ensures)
 
 returns-7 : tie.Need-returns-7
-returns-7 c = let r = c .match .rest in kind-other (c .before .before .args .fields .now) (c .before .before .args .kind) (r .0 .0 .0 .0 .0 .1) (r .0 .0 .0 .0 .1) (r .0 .0 .0 .1) (r .0 .0 .1) (r .0 .1) (r .1)
+returns-7 c = rw (c .before .match .keys7) (c .state-frame2 .ensures)
+
+returns-8 : tie.Need-returns-8
+returns-8 c = let r = c .match .rest in kind-other (c .before .before .args .fields .now) (c .before .before .args .kind) (r .0 .0 .0 .0 .0 .0 .1) (r .0 .0 .0 .0 .0 .1) (r .0 .0 .0 .0 .1) (r .0 .0 .0 .1) (r .0 .0 .1) (r .0 .1) (r .1)
 
 pub spoken-spec : {M : Type 1} → statement M
 spoken-spec =
@@ -53,10 +59,12 @@ spoken-spec =
     edge-frame-requires
     edge-frame-requires-2
     bare-frame-requires-2
+    state-frame-requires-2
     returns
     returns-2
     returns-3
     returns-4
     returns-5
     returns-6
-    returns-7)
+    returns-7
+    returns-8)

@@ -1,4 +1,4 @@
--- Three fields of four digits.
+-- Three fields of four digits, plain or inverted.
 use borrow.Author.Needs.{needs}
 use native.Mathlib.Omega.{arith}
 use lib.ListN.{drop, length-take}
@@ -7,7 +7,7 @@ use Rattle.frame_reading.proofs.state_frame.Statement.{statement}
 use Rattle.frame_reading.proofs.state_frame.Tie as tie
 
 returns : tie.Need-returns
-returns c = state-wrong (c .before .before .args .fields .now) (c .if1 .taken)
+returns c = state-wrong (c .before .before .args .fields .now) (c .before .before .args .inverted) (c .if1 .taken)
 
 sub-half : tie.Need-sub-half
 sub-half c = search needs
@@ -46,7 +46,7 @@ number-requires : tie.Need-number-requires
 number-requires c κs = let s = c .before .before .before .before .before .before .before in (omega (arith, length-take 4 (drop 8 (s .args .fields .now))), hex-part (s .args .fields .now) 8 4 (s .pre) (omega arith))
 
 returns-2 : tie.Need-returns-2
-returns-2 c = let s = c .before .before .before .before .before .before .before .before in rw (c .before .before .before .before .half .ensures, c .before .before .half2 .ensures, c .number .ensures) (state-right (s .args .fields .now) (c .before .before .before .before .before .before .if1 .left))
+returns-2 c = let s = c .before .before .before .before .before .before .before .before in rw (c .before .before .before .before .half .ensures, c .before .before .half2 .ensures, c .number .ensures) (state-right (s .args .fields .now) (s .args .inverted) (c .before .before .before .before .before .before .if1 .left))
 
 pub state-frame-spec : {M : Type 1} → statement M
 state-frame-spec =

@@ -31,6 +31,15 @@ add-links-end c = search needs
 add-samples-end : tie.Need-add-samples-end
 add-samples-end c = search needs
 
+slice-read-kept-below : tie.Need-slice-read-kept-below
+slice-read-kept-below c = search needs
+
+cast-kept-below : tie.Need-cast-kept-below
+cast-kept-below c = search needs
+
+kept-below-requires : tie.Need-kept-below-requires
+kept-below-requires c κs = search needs
+
 sub-load : tie.Need-sub-load
 sub-load c = search needs
 
@@ -92,7 +101,7 @@ move-on-requires : tie.Need-move-on-requires
 move-on-requires c κs = search needs
 
 put-answer-requires : tie.Need-put-answer-requires
-put-answer-requires c κs = omega (arith, c .before .before .before .before .before .before .before .before .before .before .before .before .before .before .before .before .before .before .before .before .before .before .before .before .before .pre .2, loaded-few _ _ _ _ _ _ (c .before .before .before .before .before .before .before .before .before .load .ensures))
+put-answer-requires c κs = omega (arith, c .before .before .before .before .before .before .before .before .before .before .before .before .before .before .before .before .before .before .before .before .before .before .before .before .before .before .before .pre .2, loaded-few _ _ _ _ _ _ (c .before .before .before .before .before .before .before .before .before .load .ensures))
 
 same-length : tie.Need-same-length
 same-length c = search needs
@@ -108,12 +117,13 @@ same-length-4 c = search needs
 
 returns : tie.Need-returns
 returns c =
-    let a = c .before .before .before .before .before .before .before .before .before .before .before .before .before .before .before .before .before .before .before .before .before .before .before .before .before .before .before .before .args in
+    let a = c .before .before .before .before .before .before .before .before .before .before .before .before .before .before .before .before .before .before .before .before .before .before .before .before .before .before .before .before .before .before .args in
     let l = c .before .before .before .before .before .before .before .before .before .before .before .before .load in
+    let k = c .before .before .before .before .before .before .before .before .before .before .before .before .before .before .before .before .before .before .before .before .before .before .kept-below in
     record {
       answer = l .result;
-      loads = subst (λ (x : Given). Loaded x (a .session .now) (a .changes .now) (l .result) (l .last .0) (l .last .1 .1 .1 .1 .1 .1 .1 .0))
-          (read-parts (memory (a .counts .now) (a .words .now) (a .session .now) (a .changes .now) (a .out .now))) (l .ensures);
+      loads = subst (λ (x : Given). Loaded x (a .session .now) (a .changes .now) (l .result) (l .last .0) (l .last .1 .1 .1 .1 .1 .1 .1 .1 .0))
+          (read-parts (memory (a .counts .now) (a .words .now) (a .session .now) (a .changes .now) (a .out .now)) (k .result) (k .ensures)) (l .ensures);
       prints = rw (← c .before .before .before .before .before .before .before .move-on .ensures) (printed-front _ _ _ _ (c .before .before .put-answer .ensures));
     }
 
@@ -128,6 +138,9 @@ run-line-spec =
     add-values-end
     add-links-end
     add-samples-end
+    slice-read-kept-below
+    cast-kept-below
+    kept-below-requires
     sub-load
     part-load-start
     part-load-end

@@ -85,6 +85,9 @@ part-all-admitted-start-2 c = search needs
 part-all-admitted-end-2 : tie.Need-part-all-admitted-end-2
 part-all-admitted-end-2 c = search needs
 
+shared-slice-read-all-admitted : tie.Need-shared-slice-read-all-admitted
+shared-slice-read-all-admitted c = search needs
+
 sub-all-admitted-3 : tie.Need-sub-all-admitted-3
 sub-all-admitted-3 c = search needs
 
@@ -105,7 +108,7 @@ part-all-admitted-end-4 c = search needs
 
 all-admitted-requires : tie.Need-all-admitted-requires
 all-admitted-requires c κs =
-    let one = c .before .before .before .before in
+    let one = c .before .before .before .before .before in
     let g = one .before .before .before .before in
     let s = g .before .before .before in
     let n = s .args .states in
@@ -129,7 +132,7 @@ all-admitted-requires c κs =
 returns : tie.Need-returns
 unfolding marksTest
 returns c =
-    let one = c .before .before .before .before .before in
+    let one = c .before .before .before .before .before .before in
     let s = one .before .before .before .before .before .before .before in
     rw (← whole (one .before), one .if1 .taken)
     (simp (add-sub-cancel-left, part-length (s .args .session .now) masksAt (s .args .states) (omega arith)) at (c .all-admitted .ensures))
@@ -163,6 +166,7 @@ marks-fit-spec =
     sub-all-admitted-2
     part-all-admitted-start-2
     part-all-admitted-end-2
+    shared-slice-read-all-admitted
     sub-all-admitted-3
     part-all-admitted-start-3
     part-all-admitted-end-3

@@ -16,7 +16,7 @@ abbrev rules : tie.Start → List Rule
 rules s =
     let a = s .args in
     loadRules (a .memory) (a .room)
-    (given (a .masks .now) (a .values .now) (a .links .now) (a .samples .now) (a .starts .now) (a .ends .now))
+    (given (a .masks .now) (a .values .now) (a .links .now) (a .inverted) (a .samples .now) (a .starts .now) (a .ends .now))
 
 -- where the first k rules hold, the others decide
 abbrev Left : ℕ → tie.Start → Type 0

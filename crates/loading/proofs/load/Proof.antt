@@ -16,7 +16,7 @@ use Rattle.loading.proofs.load.Statement.{statement}
 use Rattle.loading.proofs.load.Tie as tie
 
 abbrev loaded : tie.Start → Given
-loaded s = given (s .args .masks .now) (s .args .values .now) (s .args .links .now) (s .args .samples .now) (s .args .starts .now) (s .args .ends .now)
+loaded s = given (s .args .masks .now) (s .args .values .now) (s .args .links .now) (s .args .inverted) (s .args .samples .now) (s .args .starts .now) (s .args .ends .now)
 
 -- the slices hold 16-bit words
 abbrev known : tie.After-load-rule → tie.Start

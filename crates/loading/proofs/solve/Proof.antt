@@ -1,11 +1,12 @@
 -- The admitted pairs of what the session holds, refined from all nodes, are the greatest simulation.
-use Rattle.loading.proofs.Solving.{all-wait, held-inside, held-solved}
-use Rattle.pair_tables.proofs.Zeros.{zeros}
-use Rattle.refinement.proofs.Systems.{held-sound}
-use Rattle.session.proofs.Decoded.{Bounded, layout-limits, layout-facts}
 use borrow.Author.Needs.{needs}
 use mathlib.Core.Path.{refl}
 use native.Mathlib.Omega.{arith}
+use Rattle.session.specs.Limits.{maxNodes}
+use Rattle.session.proofs.Decoded.{Bounded, layout-limits}
+use Rattle.pair_tables.proofs.Zeros.{zeros}
+use Rattle.refinement.proofs.Systems.{held-sound}
+use Rattle.loading.proofs.Solving.{all-wait, held-inside, held-solved}
 use Rattle.loading.proofs.solve.Statement.{statement}
 use Rattle.loading.proofs.solve.Tie as tie
 
@@ -22,21 +23,8 @@ shared-slice-read-nodes c = omega (arith, bounded c)
 cast-nodes : tie.Need-cast-nodes
 cast-nodes c = omega (arith, bounded c)
 
-masks-of-requires : tie.Need-masks-of-requires
-masks-of-requires c κs = search needs
-
-values-of-requires : tie.Need-values-of-requires
-values-of-requires c κs = search needs
-
-samples-of-requires : tie.Need-samples-of-requires
-samples-of-requires c κs = search needs
-
-admitted-requires : tie.Need-admitted-requires
-admitted-requires c κs =
-    let s = start (c .before .before .before .before) in
-    let f = layout-facts (s .args .session .now) (s .pre .0) in
-    rw (c .before .before .before .masks-of .ensures, c .before .before .values-of .ensures, c .before .samples-of .ensures)
-    ((f .trigger .values, f .trigger .few, f .graph .few, s .pre .1), (f .trigger .masks-fit, s .pre .2))
+admitted-pairs-requires : tie.Need-admitted-pairs-requires
+admitted-pairs-requires c κs = search needs
 
 links-of-requires : tie.Need-links-of-requires
 links-of-requires c κs = search needs
@@ -52,13 +40,14 @@ slice-aggregate-refine-indexed-2 c = search needs
 
 refine-indexed-requires : tie.Need-refine-indexed-requires
 refine-indexed-requires c κs =
-    let s = start (c .before .before .before .before .before .before .before .before .before .before .before .before) in
+    let p = c .before .before .before .before .before .before .before in
+    let s = start (p .before .before) in
     let xs = s .args .session .now in
-    let a = c .before .before .before .before .before .before .before .admitted .ensures in (
+    let a = p .admitted-pairs .ensures in (
       (refl, a .long, refl),
       (
         held-sound xs (s .pre .0) _ _ (c .before .before .before .before .links-of .ensures) (c .before .before .before .edges-of .ensures),
-        held-inside xs (s .pre .0) _ _ _ (c .before .before .before .before .before .before .before .before .before .before .before .masks-of .ensures) (c .before .before .before .before .before .before .before .before .before .before .values-of .ensures) (c .before .before .before .before .before .before .before .before .before .samples-of .ensures) _ _ a,
+        held-inside xs (s .pre .0) _ _ a,
       ),
     )
 
@@ -67,9 +56,11 @@ same-length c = search needs
 
 returns : tie.Need-returns
 returns c =
-    let s = start (c .before .before .before .before .before .before .before .before .before .before .before .before .before .before .before .before) in
-    held-solved (s .args .session .now) (s .pre .0) _ _ _ (c .before .before .before .before .before .before .before .before .before .before .before .before .before .before .before .masks-of .ensures) (c .before .before .before .before .before .before .before .before .before .before .before .before .before .before .values-of .ensures) (c .before .before .before .before .before .before .before .before .before .before .before .before .before .samples-of .ensures) _ _
-    (c .before .before .before .before .before .before .before .before .before .before .before .admitted .ensures) _ _ _ _ _ (c .before .before .before .before .before .before .before .before .links-of .ensures) (c .before .before .before .before .before .before .before .edges-of .ensures) (zeros 512) all-wait (c .before .before .before .refine-indexed .ensures)
+    let e = c .before .before .before .before .before .before .before in
+    let p = e .before .before .before .before in
+    let s = start (p .before .before) in
+    held-solved (s .args .session .now) (s .pre .0) _ _ (p .admitted-pairs .ensures) _ _ _ _ _ (e .before .links-of .ensures) (e .edges-of .ensures)
+    (zeros maxNodes) all-wait (c .before .before .before .refine-indexed .ensures)
 
 pub solve-spec : {M : Type 1} → statement M
 solve-spec =
@@ -77,10 +68,7 @@ solve-spec =
     (tie.spec
     shared-slice-read-nodes
     cast-nodes
-    masks-of-requires
-    values-of-requires
-    samples-of-requires
-    admitted-requires
+    admitted-pairs-requires
     links-of-requires
     edges-of-requires
     slice-aggregate-refine-indexed

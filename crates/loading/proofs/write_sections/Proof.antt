@@ -1,4 +1,4 @@
--- The counts are stored, the five sections filled with the lists, one after the other, and the marks cleared.
+-- The counts and the inverted states are stored, the five sections filled with the lists, one after the other, and the marks cleared.
 use borrow.Author.Needs.{needs}
 use native.Mathlib.Omega.{arith}
 use Prim.Native.Nat.{ℕ, _≤_}
@@ -6,7 +6,7 @@ use mathlib.Core.Path.{_≡_, _∙_}
 use mathlib.Core.List.{List}
 use lib.ListN.{length, set, length-set}
 use borrow.Rule.Slice.PartMut.{putMid, same-len-mid}
-use Rattle.session.specs.Limits.{masksAt, valuesAt, linksAt, samplesAt, edgesAt, marksAt, fixedSize}
+use Rattle.session.specs.Limits.{invertedAt, masksAt, valuesAt, linksAt, samplesAt, edgesAt, marksAt, fixedSize}
 use Rattle.promises.specs.Rules.{Given, given}
 use Rattle.promises.proofs.Loads.{load-counts, load-edges}
 use Rattle.loading.proofs.Sections.{sections-written}
@@ -14,7 +14,7 @@ use Rattle.loading.proofs.write_sections.Statement.{statement}
 use Rattle.loading.proofs.write_sections.Tie as tie
 
 abbrev loaded : tie.Start → Given
-loaded s = given (s .args .masks .now) (s .args .values .now) (s .args .links .now) (s .args .samples .now) (s .args .starts .now) (s .args .ends .now)
+loaded s = given (s .args .masks .now) (s .args .values .now) (s .args .links .now) (s .args .inverted) (s .args .samples .now) (s .args .starts .now) (s .args .ends .now)
 
 -- the memory is long enough, and the lists are short
 bounds : (s : tie.Start) → (fixedSize ≤ length (s .args .session .now)) × (length (s .args .masks .now) ≤ 16)
@@ -40,7 +40,9 @@ start5 g = start4 (g .before .before .before .before)
 
 -- the memory after each section, as long as it was
 abbrev X0 : tie.Start → List ℕ
-X0 s = set (set (set (s .args .session .now) 0 (length (s .args .masks .now))) 1 (length (s .args .samples .now))) 2 (length (s .args .starts .now))
+X0 s =
+    set (set (set (set (s .args .session .now) 0 (length (s .args .masks .now))) 1 (length (s .args .samples .now))) 2 (length (s .args .starts .now))) invertedAt
+    (s .args .inverted)
 
 long0 : (s : tie.Start) → length (X0 s) ≡ length (s .args .session .now)
 long0 s = simp length-set
@@ -98,6 +100,19 @@ slice-write-session-3 c =
     let s = c .before .before .before .before .before .before .before in
     let a = s .args in
     omega (arith, bounds s, length-set (a .session .now) 0 (length (a .masks .now)), length-set (set (a .session .now) 0 (length (a .masks .now))) 1 (length (a .samples .now)))
+
+slice-write-session-4 : tie.Need-slice-write-session-4
+slice-write-session-4 c =
+    let s = c .before .before .before .before .before .before .before in
+    let a = s .args in
+    let one = set (a .session .now) 0 (length (a .masks .now)) in
+    omega (
+      arith,
+      bounds s,
+      length-set (a .session .now) 0 (length (a .masks .now)),
+      length-set one 1 (length (a .samples .now)),
+      length-set (set one 1 (length (a .samples .now))) 2 (length (a .starts .now)),
+    )
 
 sub-fill-halves : tie.Need-sub-fill-halves
 sub-fill-halves c = search needs
@@ -202,6 +217,7 @@ write-sections-spec =
     slice-write-session-2
     cast-session-3
     slice-write-session-3
+    slice-write-session-4
     sub-fill-halves
     part-fill-halves-start
     part-fill-halves-end

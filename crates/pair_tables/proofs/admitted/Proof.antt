@@ -3,23 +3,33 @@ use Prim.Native.Nat.{_*_, _-_, _^_, _≤_}
 use native.Mathlib.Omega.{arith}
 use borrow.Author.Needs.{needs}
 use mathlib.Core.Path.{_≡_}
-use lib.ListN.{length}
+use lib.ListN.{length, getD}
+use Rattle.bits.specs.Word.{members}
+use Rattle.session.specs.Limits.{maxNodes, wordBits}
 use Rattle.session.proofs.Tables.{below-take}
+use Rattle.pair_tables.specs.Tables.{Admits}
 use Rattle.pair_tables.proofs.Admitting.{Filled, admits-few, filled-start, filled-more, filled-end}
 use Rattle.pair_tables.proofs.admitted.Statement.{statement}
 use Rattle.pair_tables.proofs.admitted.Tie as tie
 
 abbrev Inv-loop : tie.InvT-loop
-Inv-loop masks values samples table₀ count₀ u₀ table count u = (u ≤ length masks) × (count ≤ u * 512) × Filled masks values samples u count table
+Inv-loop masks values inverted samples table₀ count₀ u₀ table count u =
+    (u ≤ length masks) × (count ≤ u * maxNodes) × Filled masks values inverted samples u count table
 
 abbrev μ-loop : tie.MeasureT-loop
-μ-loop masks values samples table₀ count₀ u₀ table count u = length masks - u
+μ-loop masks values inverted samples table₀ count₀ u₀ table count u = length masks - u
 
 loop-holds : tie.Need-loop-holds Inv-loop μ-loop
 loop-holds c =
     let s = c .before .before .before .before in
     let a = s .args in
-    (search needs, search needs, filled-start (a .masks .now) (a .values .now) (a .samples .now) (search needs) (s .pre .1 .1))
+    (search needs, search needs, filled-start (a .masks .now) (a .values .now) (a .inverted) (a .samples .now) (search needs) (s .pre .1 .1))
+
+cast-has : tie.Need-cast-has Inv-loop μ-loop
+cast-has c = search needs
+
+has-requires : tie.Need-has-requires Inv-loop μ-loop
+has-requires c κs = search needs
 
 mul-admit : tie.Need-mul-admit Inv-loop μ-loop
 mul-admit c = search needs
@@ -38,14 +48,22 @@ cast-admit c = search needs
 
 admit-requires : tie.Need-admit-requires Inv-loop μ-loop
 admit-requires c κs =
-    let s = c .before .before .before .before .before .before .before .before .before in
-    let l = c .before .before .before .before .loop in
-    (below-take (2 ^ 16) (s .args .masks .now) (s .pre .1 .0) (l .u) (search needs), search needs, omega (arith, l .inv .2 .long, s .pre), search needs)
+    let s = c .before .before .before .before .before .before .before .before .before .before in
+    let l = c .before .before .before .before .before .loop in
+    (below-take (2 ^ wordBits) (s .args .masks .now) (s .pre .1 .0) (l .u) (search needs), search needs, omega (arith, l .inv .2 .long, s .pre), search needs)
+
+-- what the call leaves, of the state u
+put : (c : tie.After-admit Inv-loop μ-loop)
+    → let l = c .before .before .before .before .before .before in
+    let a = l .before .before .before .before .before .args in
+    Admits (a .samples .now) (members (a .inverted) (l .loop .u)) (getD (a .masks .now) (l .loop .u) 0) (getD (a .values .now) (l .loop .u) 0) (l .loop .u)
+    (l .loop .table) (c .admit .result) (c .admit .last .1 .1 .1 .1 .1 .0)
+put c = rw (c .before .before .before .before .has .ensures) at (c .admit .ensures)
 
 add-count : tie.Need-add-count Inv-loop μ-loop
 add-count c =
-    let a = c .before .before .before .before .before .before .before .before .before .before .before .before .args in
-    omega (arith, admits-few (a .masks .now) (a .values .now) (a .samples .now) (c .before .before .admit .ensures))
+    let a = c .before .before .before .before .before .before .before .before .before .before .before .before .before .args in
+    omega (arith, admits-few (a .masks .now) (a .values .now) (a .inverted) (a .samples .now) (put (c .before .before)))
 
 add-u : tie.Need-add-u Inv-loop μ-loop
 add-u c = search needs
@@ -55,12 +73,12 @@ loop-less c = search needs
 
 loop-again : tie.Need-loop-again Inv-loop μ-loop
 loop-again c =
-    let a = c .before .before .before .before .before .before .before .before .before .before .before .before .args in
-    let l = c .before .before .before .before .before .before .before .loop in
-    let e = c .before .before .admit .ensures in (
+    let l = c .before .before .before .before .before .before .before .before in
+    let a = l .before .before .before .before .before .args in
+    let e = put (c .before .before) in (
       search needs,
-      omega (arith, admits-few (a .masks .now) (a .values .now) (a .samples .now) e),
-      filled-more (a .masks .now) (a .values .now) (a .samples .now) (l .inv .2) e,
+      omega (arith, admits-few (a .masks .now) (a .values .now) (a .inverted) (a .samples .now) e),
+      filled-more (a .masks .now) (a .values .now) (a .inverted) (a .samples .now) (l .loop .inv .2) e,
     )
 
 same-length : tie.Need-same-length Inv-loop μ-loop
@@ -70,7 +88,7 @@ returns : tie.Need-returns Inv-loop μ-loop
 returns c =
     let a = c .before .before .before .before .before .before .args in
     let end : c .before .loop .u ≡ length (a .masks .now) = omega arith in
-    filled-end (a .masks .now) (a .values .now) (a .samples .now) (rw end at (c .before .loop .inv .2))
+    filled-end (a .masks .now) (a .values .now) (a .inverted) (a .samples .now) (rw end at (c .before .loop .inv .2))
 
 pub admitted-spec : {M : Type 1} → statement M
 admitted-spec =
@@ -79,6 +97,8 @@ admitted-spec =
     Inv-loop
     μ-loop
     loop-holds
+    cast-has
+    has-requires
     mul-admit
     shared-slice-read-admit
     mul-admit-2

@@ -1,4 +1,4 @@
--- `admitted_at` meets its contract: the states below u that admit the sample were put in.
+-- `admitted_at` meets its contract: the states below u that agree with the sample were put in; at the end the set is turned round where they are inverted.
 use Prim.Native.Nat.{_-_, _^_, _<_, _≤_}
 use borrow.Author.Needs.{needs}
 use native.Mathlib.Omega.{arith}
@@ -8,20 +8,21 @@ use lib.ListN.{length, getD}
 use Rattle.simulation.specs.Sets.{none, Set}
 use Rattle.bits.specs.Word.{members}
 use Rattle.bits.proofs.Words.{zero-members}
+use Rattle.session.specs.Limits.{wordBits}
 use Rattle.session.proofs.Tables.{below-take}
 use Rattle.simulation.proofs.Gains.{gained, gained-none, gained-more, gained-pass}
-use Rattle.pair_tables.proofs.Tabling.{admitting, admitting-yes, admitting-no}
+use Rattle.pair_tables.proofs.Tabling.{agreeing, agreeing-yes, agreeing-no, agreeing-turned}
 use Rattle.pair_tables.proofs.admitted_at.Statement.{statement}
 use Rattle.pair_tables.proofs.admitted_at.Tie as tie
 
 abbrev Inv-loop : tie.InvT-loop
-Inv-loop masks values sample all₀ u₀ all u = (u ≤ length masks) × (members all ≡ gained none (admitting masks values sample) u)
+Inv-loop masks values inverted sample all₀ u₀ all u = (u ≤ length masks) × (members all ≡ gained none (agreeing masks values sample) u)
 
 abbrev μ-loop : tie.MeasureT-loop
-μ-loop masks values sample all₀ u₀ all u = length masks - u
+μ-loop masks values inverted sample all₀ u₀ all u = length masks - u
 
 loop-holds : tie.Need-loop-holds Inv-loop μ-loop
-loop-holds c = let a = c .before .before .args in (search needs, fun-ext zero-members ∙ gained-none none (admitting (a .masks .now) (a .values .now) (a .sample)))
+loop-holds c = let a = c .before .before .args in (search needs, fun-ext zero-members ∙ gained-none none (agreeing (a .masks .now) (a .values .now) (a .sample)))
 
 mul-if1 : tie.Need-mul-if1 Inv-loop μ-loop
 mul-if1 c = search needs
@@ -52,24 +53,31 @@ loop-again c =
     let s = c .before .before .before .before .before .before .before in
     let a = s .args in
     let l = c .before .before .before .before .loop in
-    let P : Set = admitting (a .masks .now) (a .values .now) (a .sample) in
-    let small : getD (a .masks .now) (l .u) 0 < 2 ^ 16 = below-take (2 ^ 16) (a .masks .now) (s .pre .2) (l .u) (search needs) in (
+    let P : Set = agreeing (a .masks .now) (a .values .now) (a .sample) in
+    let small : getD (a .masks .now) (l .u) 0 < 2 ^ wordBits = below-take (2 ^ wordBits) (a .masks .now) (s .pre .0 .2) (l .u) (search needs) in (
       search needs,
       ⊎-elim
           (λ w.
           ap members (w .2)
-          ∙ gained-more none P (l .u) (l .inv .1) (admitting-yes (a .masks .now) (a .values .now) (a .sample) (l .u) small (w .0 .taken)) (w .1 .ensures))
+          ∙ gained-more none P (l .u) (l .inv .1) (agreeing-yes (a .masks .now) (a .values .now) (a .sample) (l .u) small (w .0 .taken)) (w .1 .ensures))
           (λ w.
           ap members (w .1)
-          ∙ gained-pass none P (l .u) (l .inv .1) (admitting-no (a .masks .now) (a .values .now) (a .sample) (l .u) small (w .0 .left)))
+          ∙ gained-pass none P (l .u) (l .inv .1) (agreeing-no (a .masks .now) (a .values .now) (a .sample) (l .u) small (w .0 .left)))
           (c .if1 .came),
     )
 
+differing-requires : tie.Need-differing-requires Inv-loop μ-loop
+differing-requires c κs = search needs
+
 returns : tie.Need-returns Inv-loop μ-loop
 returns c =
-    let a = c .before .before .before .before .args in
-    let l = c .before .loop in
-    l .inv .1 ∙ ap (gained none (admitting (a .masks .now) (a .values .now) (a .sample))) (omega arith)
+    let s = c .before .before .before .before .before in
+    let a = s .args in
+    let l = c .before .before .loop in
+    let end : l .u ≡ length (a .masks .now) = omega arith in
+    let all = l .inv .1 ∙ ap (gained none (agreeing (a .masks .now) (a .values .now) (a .sample))) end in
+    agreeing-turned (a .masks .now) (a .values .now) (a .sample) (length (a .masks .now)) (a .inverted) (members (l .all)) (members (c .differing .result))
+    (s .pre .1) all (c .differing .ensures)
 
 pub admitted-at-spec : {M : Type 1} → statement M
 admitted-at-spec =
@@ -87,4 +95,5 @@ admitted-at-spec =
     add-u
     loop-less
     loop-again
+    differing-requires
     returns)

@@ -99,11 +99,11 @@ returns : tie.Need-returns
 returns c =
     let g = c .before in
     let a = start g .args in
-    let test : Set = λ u. sparse (a .samples .now) (a .marks .now) (getD (a .masks .now) u 0) (getD (a .values .now) u 0) u in
+    let test : Set = λ u. sparse (a .samples .now) (a .marks .now) (members (a .inverted) u) (getD (a .masks .now) u 0) (getD (a .values .now) u 0) u in
     sym
     (all-make (length (a .masks .now)) test
     (λ u l.
-    sparse-none (a .samples .now) (a .marks .now) (getD (a .masks .now) u 0) (getD (a .values .now) u 0) (a .used) u (start g .pre .1 .1 .1)
+    sparse-none (a .samples .now) (a .marks .now) (members (a .inverted) u) (getD (a .masks .now) u 0) (getD (a .values .now) u 0) (a .used) u (start g .pre .1 .1 .1)
     (ap (λ (w : ℕ). members w u) (c .if1 .taken) ∙ zero-members u)))
 
 returns-2 : tie.Need-returns-2
@@ -112,7 +112,7 @@ returns-2 c =
     let n = m .before .before .before in
     let a = start (n .before .before .before) .args in
     c .all-sparse .ensures
-    ∙ ap₂ (λ (ss ms : List ℕ). allBelow (length (a .masks .now)) (λ u. sparse ss ms (getD (a .masks .now) u 0) (getD (a .values .now) u 0) u))
+    ∙ ap₂ (λ (ss ms : List ℕ). allBelow (length (a .masks .now)) (λ u. sparse ss ms (members (a .inverted) u) (getD (a .masks .now) u 0) (getD (a .values .now) u 0) u))
     (samples-read n) (marks-read m)
 
 pub all-admitted-spec : {M : Type 1} → statement M

@@ -3,7 +3,7 @@ use Prim.Native.Nat.{ℕ, _-_, _^_, _<_}
 use borrow.Author.Needs.{needs}
 use native.Mathlib.Omega.{arith}
 use mathlib.Core.Path.{_≡_, sym, ap, _∙_}
-use mathlib.Core.Bool.{not}
+use mathlib.Core.Bool.{Bool, not}
 use mathlib.Core.Logic.{⊎-elim}
 use mathlib.Core.List.{List}
 use lib.Bits.{bitAnd, and-le-r}
@@ -12,6 +12,7 @@ use Rattle.simulation.specs.Sets.{Set}
 use Rattle.bits.specs.Word.{members}
 use Rattle.bits.proofs.Words.{and-again}
 use Rattle.bits.proofs.Gathers.{gathers}
+use Rattle.session.specs.Limits.{wordBits}
 use Rattle.session.specs.Tests.{sparse}
 use Rattle.session.proofs.Tables.{below-take}
 use Rattle.section_tests.proofs.Unadmitted.{stray, sparse-stray, sparse-part, sparse-none}
@@ -20,29 +21,29 @@ use Rattle.section_tests.proofs.all_sparse.Statement.{statement}
 use Rattle.section_tests.proofs.all_sparse.Tie as tie
 
 -- the marks of the state u are admitted
-abbrev admitted : List ℕ → List ℕ → List ℕ → List ℕ → Set
-admitted masks values samples marks u = sparse samples marks (getD masks u 0) (getD values u 0) u
+abbrev admitted : List ℕ → List ℕ → ℕ → List ℕ → List ℕ → Set
+admitted masks values inverted samples marks u = sparse samples marks (members inverted u) (getD masks u 0) (getD values u 0) u
 
 abbrev Inv-loop : tie.InvT-loop
-Inv-loop masks values samples marks used faults₀ u₀ faults u = Folded (admitted masks values samples marks) (length masks) faults u
+Inv-loop masks values inverted samples marks used faults₀ u₀ faults u = Folded (admitted masks values inverted samples marks) (length masks) faults u
 
 abbrev μ-loop : tie.MeasureT-loop
-μ-loop masks values samples marks used faults₀ u₀ faults u = length masks - u
+μ-loop masks values inverted samples marks used faults₀ u₀ faults u = length masks - u
 
 abbrev start : tie.In-loop Inv-loop μ-loop → tie.Start Inv-loop μ-loop
 start c = c .before .before .before .before .before .before
 
 -- what the marks that are found say, with the part of the value inside the mask
-tested : (samples marks : List ℕ) (mask value all u : ℕ) → mask < 2 ^ 16
-    → members all ≡ gathers (length marks) (stray samples marks mask (bitAnd value mask))
-    → sparse samples marks mask value u ≡ not (members all u)
-tested samples marks mask value all u h e =
-    sym (sparse-stray samples marks mask (bitAnd value mask) all u e ∙ sparse-part samples marks mask value u h)
+tested : (samples marks : List ℕ) (inverted : ℕ) (turned : Bool) (mask value all u : ℕ) → mask < 2 ^ wordBits → turned ≡ members inverted u
+    → members all ≡ gathers (length marks) (stray samples marks turned mask (bitAnd value mask))
+    → sparse samples marks (members inverted u) mask value u ≡ not (members all u)
+tested samples marks inverted turned mask value all u h t e =
+    rw (← t) (sym (sparse-stray samples marks turned mask (bitAnd value mask) all u e ∙ sparse-part samples marks turned mask value u h))
 
 loop-holds : tie.Need-loop-holds Inv-loop μ-loop
 loop-holds c =
     let a = c .before .before .before .before .args in
-    fold-start (admitted (a .masks .now) (a .values .now) (a .samples .now) (a .marks .now)) (length (a .masks .now))
+    fold-start (admitted (a .masks .now) (a .values .now) (a .inverted) (a .samples .now) (a .marks .now)) (length (a .masks .now))
 
 cast-has : tie.Need-cast-has Inv-loop μ-loop
 cast-has c = search needs
@@ -63,34 +64,40 @@ shared-slice-read-wanted : tie.Need-shared-slice-read-wanted Inv-loop μ-loop
 shared-slice-read-wanted c = search needs
 
 -- a mask is a word
-small : (c : tie.In-loop Inv-loop μ-loop) → getD (start c .args .masks .now) (c .before .loop .u) 0 < 2 ^ 16
-small c = below-take (2 ^ 16) (start c .args .masks .now) (start c .pre .1 .0) (c .before .loop .u) (omega arith)
+small : (c : tie.In-loop Inv-loop μ-loop) → getD (start c .args .masks .now) (c .before .loop .u) 0 < 2 ^ wordBits
+small c = below-take (2 ^ wordBits) (start c .args .masks .now) (start c .pre .1 .0) (c .before .loop .u) (omega arith)
+
+cast-has-2 : tie.Need-cast-has-2 Inv-loop μ-loop
+cast-has-2 c = search needs
+
+has-requires-2 : tie.Need-has-requires-2 Inv-loop μ-loop
+has-requires-2 c κs = search needs
 
 cast-strays : tie.Need-cast-strays Inv-loop μ-loop
-cast-strays c = omega (arith, small (c .before .before .before .before))
+cast-strays c = omega (arith, small (c .before .before .before .before .before))
 
 cast-strays-2 : tie.Need-cast-strays-2 Inv-loop μ-loop
 cast-strays-2 c =
-    let t = c .before .before .before .before in
+    let t = c .before .before .before .before .before in
     let a = start t .args in
     omega (arith, small t, and-le-r (getD (a .values .now) (t .before .loop .u) 0) (getD (a .masks .now) (t .before .loop .u) 0))
 
 strays-requires : tie.Need-strays-requires Inv-loop μ-loop
 strays-requires c κs =
-    let t = c .before .before .before .before in
+    let t = c .before .before .before .before .before in
     let a = start t .args in (
       (start t .pre .0 .0, small t),
       and-again (getD (a .values .now) (t .before .loop .u) 0) (getD (a .masks .now) (t .before .loop .u) 0),
     )
 
-cast-has-2 : tie.Need-cast-has-2 Inv-loop μ-loop
-cast-has-2 c = search needs
-
 cast-has-3 : tie.Need-cast-has-3 Inv-loop μ-loop
 cast-has-3 c = search needs
 
-has-requires-2 : tie.Need-has-requires-2 Inv-loop μ-loop
-has-requires-2 c κs = search needs
+cast-has-4 : tie.Need-cast-has-4 Inv-loop μ-loop
+cast-has-4 c = search needs
+
+has-requires-3 : tie.Need-has-requires-3 Inv-loop μ-loop
+has-requires-3 c κs = search needs
 
 add-u : tie.Need-add-u Inv-loop μ-loop
 add-u c = search needs
@@ -103,33 +110,33 @@ loop-again c =
     let t = c .before .before in
     let l = t .before .loop in
     let a = start t .args in
-    let P = admitted (a .masks .now) (a .values .now) (a .samples .now) (a .marks .now) in
+    let P = admitted (a .masks .now) (a .values .now) (a .inverted) (a .samples .now) (a .marks .now) in
     let n = length (a .masks .now) in
     let mask = getD (a .masks .now) (l .u) 0 in
     let value = getD (a .values .now) (l .u) 0 in
     ⊎-elim
     (λ w.
-    rw (w .6)
+    rw (w .7)
     (fold-fault P n (l .u) (omega arith)
-    (tested (a .samples .now) (a .marks .now) mask value (w .3 .result) (l .u) (small t) (w .3 .ensures)
-    ∙ ap not (sym (w .4 .ensures) ∙ w .5 .taken))))
+    (tested (a .samples .now) (a .marks .now) (a .inverted) (w .3 .result) mask value (w .4 .result) (l .u) (small t) (w .3 .ensures) (w .4 .ensures)
+    ∙ ap not (sym (w .5 .ensures) ∙ w .6 .taken))))
     (⊎-elim
     (λ w.
-    rw (w .6)
+    rw (w .7)
     (fold-pass P n (l .faults) (l .u) (l .inv) (omega arith)
-    (tested (a .samples .now) (a .marks .now) mask value (w .3 .result) (l .u) (small t) (w .3 .ensures)
-    ∙ ap not (sym (w .4 .ensures) ∙ w .5 .left))))
+    (tested (a .samples .now) (a .marks .now) (a .inverted) (w .3 .result) mask value (w .4 .result) (l .u) (small t) (w .3 .ensures) (w .4 .ensures)
+    ∙ ap not (sym (w .5 .ensures) ∙ w .6 .left))))
     (λ w.
     rw (w .1)
     (fold-pass P n (l .faults) (l .u) (l .inv) (omega arith)
-    (sparse-none (a .samples .now) (a .marks .now) mask value (a .used) (l .u) (start t .pre .1 .1) (sym (c .before .has .ensures) ∙ w .0 .left)))))
+    (sparse-none (a .samples .now) (a .marks .now) (members (a .inverted) (l .u)) mask value (a .used) (l .u) (start t .pre .1 .1) (sym (c .before .has .ensures) ∙ w .0 .left)))))
     (c .if1 .came)
 
 returns : tie.Need-returns Inv-loop μ-loop
 returns c =
     let a = c .before .before .before .before .before .before .args in
     let l = c .before .loop in
-    fold-end (admitted (a .masks .now) (a .values .now) (a .samples .now) (a .marks .now)) (length (a .masks .now)) (l .faults) (l .u)
+    fold-end (admitted (a .masks .now) (a .values .now) (a .inverted) (a .samples .now) (a .marks .now)) (length (a .masks .now)) (l .faults) (l .u)
     (l .inv) (omega arith)
 
 pub all-sparse-spec : {M : Type 1} → statement M
@@ -145,12 +152,14 @@ all-sparse-spec =
     shared-slice-read-mask
     mul-wanted
     shared-slice-read-wanted
+    cast-has-2
+    has-requires-2
     cast-strays
     cast-strays-2
     strays-requires
-    cast-has-2
     cast-has-3
-    has-requires-2
+    cast-has-4
+    has-requires-3
     add-u
     loop-less
     loop-again

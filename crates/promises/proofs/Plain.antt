@@ -1,0 +1,57 @@
+-- 02, Job 1, the other way round: a trigger without an inverted state has the marks, layout, trial sets and counts that it had, when a state admitted where
+-- value and sample agree. Each follows from the one equation of admission.
+use Prim.Native.Nat.{ℕ, _^_}
+use mathlib.Core.Path.{_≡_, refl, ap, _∙_}
+use mathlib.Core.Bool.{true, not, _&&_, _||_, and-true}
+use lib.Dec.{ltb, leb, eqb}
+use lib.ListN.{length}
+use lib.Pow.{pow-pos}
+use borrow.Author.Tests.{lt-ltb}
+use Rattle.simulation.specs.Sets.{allBelow, anyBelow}
+use Rattle.simulation.specs.System.{closure}
+use Rattle.simulation.specs.Pattern.{Pattern, plain, paired, system, best}
+use Rattle.session.specs.Limits.{maxStates, wordBits}
+use Rattle.session.specs.Trigger.{Trigger, Graph, Marks, states, nodes, linked, edge, admits, pattern}
+use Rattle.session.specs.Layout.{below, validTrigger, validMarks}
+use Rattle.session.proofs.Admission.{agreement, admits-agreement}
+use Rattle.promises.specs.Standing.{stands, size, trialSet}
+use Rattle.promises.specs.Promises.{loadTrials}
+
+module _ (t : Trigger) (none : t .inverted ≡ 0) where
+  -- its counts and numbers keep the limits that they had
+  pub plain-trigger : validTrigger t
+      ≡ ((leb 1 (states t) && leb (states t) maxStates)
+      && ((eqb (length (t .values)) (states t) && eqb (length (t .links)) (states t))
+      && ((below (2 ^ wordBits) (t .masks) && below (2 ^ wordBits) (t .values)) && below (2 ^ states t) (t .links))))
+  unfolding validTrigger
+  plain-trigger = rw (none, lt-ltb 0 (2 ^ states t) (pow-pos (states t)), and-true)
+
+  module _ (g : Graph) where
+    abbrev former : Pattern
+    former = plain (states t) (nodes g) (linked t) (agreement t g) (edge g)
+
+    admission : admits t g ≡ agreement t g
+    admission = admits-agreement t g none
+
+    pub plain-stands : stands t g ≡ best former
+    unfolding stands
+    plain-stands = ap (λ (a : Marks). best (plain (states t) (nodes g) (linked t) a (edge g))) admission
+
+    pub plain-marks : (m : Marks) → validMarks t g m ≡ allBelow (nodes g) (λ v. allBelow (states t) (λ u. not (m u v) || agreement t g u v))
+    unfolding validMarks
+    plain-marks m = ap (λ (a : Marks). allBelow (nodes g) (λ v. allBelow (states t) (λ u. not (m u v) || a u v))) admission
+
+    pub plain-count : loadTrials t g ≡ size t g (paired former (agreement t g))
+    plain-count = ap (λ (a : Marks). size t g (paired (plain (states t) (nodes g) (linked t) a (edge g)) a)) admission
+
+    pub plain-trials : (m : Marks) (a b : ℕ) → trialSet t g m a b
+        ≡ closure (system former) (paired former (λ u v. agreement t g u v && not (m u v)))
+        (paired former (λ u v. eqb v a && anyBelow (states t) (λ u'. linked t u u' && agreement t g u' b)))
+    unfolding trialSet
+    plain-trials m a b =
+        ap
+        (λ (x : Marks).
+        let p = plain (states t) (nodes g) (linked t) x (edge g) in
+        closure (system p) (paired p (λ u v. x u v && not (m u v)))
+        (paired p (λ u v. eqb v a && anyBelow (states t) (λ u'. linked t u u' && x u' b))))
+        admission
