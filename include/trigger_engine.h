@@ -1,9 +1,10 @@
 /* Trigger states standing at nodes of a capture graph: the engine, for C and C++.
 
-   A trigger has 1 to 16 states, numbered from 1. A state has a mask, a value and a set of links to states (bit i for state i + 1). A graph has up to
-   512 nodes, numbered from 0, each with a sample of 16 bits, and up to 2,048 edges. A state admits a node when value and sample agree in every bit of
-   the mask. The pairs (state, node) that stand are those of the greatest simulation: the state admits the node, and each link of the state is carried
-   by an edge of the node to a node at which the link's state stands. The trigger fires when every state stands at some node.
+   A trigger has 1 to 16 states, numbered from 1. A state has a mask, a value and a set of links to states (bit i for state i + 1), and is plain or
+   inverted. A graph has up to 512 nodes, numbered from 0, each with a sample of 16 bits, and up to 2,048 edges. A plain state admits a node when value
+   and sample agree in every bit of the mask; an inverted state admits exactly the nodes that its plain form does not, so with a mask of zero it admits
+   none. The pairs (state, node) that stand are those of the greatest simulation: the state admits the node, and each link of the state is carried by an
+   edge of the node to a node at which the link's state stands. The trigger fires when every state stands at some node.
 
    All memory is the caller's. Every list is a pointer and a number of places. What is asked of a caller, as of any function of C that takes memory:
    - a pointer is not null and is aligned for its type, and the memory has the places told; a list of no places has such a pointer too;
@@ -29,7 +30,7 @@ enum {
     TRIGGER_MAX_NODES = 512,
     TRIGGER_MAX_EDGES = 2048,
     /* the words of a session: what trigger_session_words() answers */
-    TRIGGER_SESSION_WORDS = 3123,
+    TRIGGER_SESSION_WORDS = 3124,
     /* the places that the changes of one call may need: what trigger_change_places() answers */
     TRIGGER_CHANGE_PLACES = 8192,
     /* the places that trigger_order writes */
@@ -49,16 +50,16 @@ enum {
     TRIGGER_STACK_SESSION_WORDS = 8,
     TRIGGER_STACK_CHANGE_PLACES = 8,
     /* an accepted load: one state and no node needed as much as a full one */
-    TRIGGER_STACK_LOAD = 19288,
+    TRIGGER_STACK_LOAD = 19312,
     /* measured: 19,000, with a session whose marks are tested against its layout; a refused insertion needed as much as an accepted one */
     TRIGGER_STACK_INSERT = 29704,
     /* a ring opened: its edges are indexed */
     TRIGGER_STACK_DELETE = 29704,
     /* these three: a session with marks, whose layout is tested */
-    TRIGGER_STACK_MATCHES = 2168,
-    TRIGGER_STACK_FIRES = 2152,
+    TRIGGER_STACK_MATCHES = 2184,
+    TRIGGER_STACK_FIRES = 2168,
     /* the deepest walk, 16 states in a chain, needed less: 1,952 */
-    TRIGGER_STACK_ORDER = 2280,
+    TRIGGER_STACK_ORDER = 2296,
     /* the greatest of these */
     TRIGGER_STACK_BYTES = TRIGGER_STACK_DELETE
 };
@@ -67,9 +68,10 @@ enum {
 enum {
     /* no rule is broken */
     TRIGGER_ACCEPTED = 0,
-    /* the session has fewer than 3,123 words, or the changes have fewer than 8,192 places, or the states of trigger_order fewer than 16 */
+    /* the session has fewer than 3,124 words, or the changes have fewer than 8,192 places, or the states of trigger_order fewer than 16 */
     TRIGGER_MEMORY_SHORT = 3,
-    /* a load has no state, more than 16, or one given in part: masks, values and links of different lengths */
+    /* a load has no state, more than 16, or one given in part: masks, values and links of different lengths, or an inverted state that has none of them
+       (a bit of the set at or above the number of states) */
     TRIGGER_STATES_WRONG = 4,
     /* a link goes to a state above the number of states */
     TRIGGER_LINK_WRONG = 5,
@@ -154,29 +156,30 @@ static inline uint32_t trigger_change_node(int32_t change)
     return trigger_change_size(change) / 64u;
 }
 
-/* How many words a session has: 3,123. Memory past them is never read or written. */
+/* How many words a session has: 3,124. Memory past them is never read or written. */
 size_t trigger_session_words(void);
 
 /* How many places the changes of one call may need: 8,192. */
 size_t trigger_change_places(void);
 
 /* Loads a trigger and a graph, a list for each field: the masks, values and links of the states, the samples of the nodes, the starts and ends of the
-   edges. Rules 3 to 9.
+   edges; and the set of the inverted states, bit i for state i + 1, 0 where all are plain. Rules 3 to 9.
    Accepted: the session holds exactly this trigger and graph, and marks at exactly the pairs that stand, whatever it held before; its unused places
-   are zero and words past its 3,123 are as before. The changes are all standing pairs, ascending by size, at the front, and the places after them are
+   are zero and words past its 3,124 are as before. The changes are all standing pairs, ascending by size, at the front, and the places after them are
    as before. The answer tells whether the trigger fires, the number of admitted pairs as the trial count, and the number of changes. */
 trigger_answer trigger_load(
     uint32_t *session, size_t session_length,
     const uint16_t *masks, size_t masks_length,
     const uint16_t *values, size_t values_length,
     const uint32_t *links, size_t links_length,
+    uint32_t inverted,
     const uint16_t *samples, size_t samples_length,
     const uint32_t *starts, size_t starts_length,
     const uint32_t *ends, size_t ends_length,
     int32_t *changes, size_t changes_length);
 
 /* Inserts the edge from start to end. Rules 3, 10, 11, 12, 13.
-   Accepted: the session holds the edge too; trigger, samples and all other edges stay, and words past its 3,123 are as before. Where its marks were at
+   Accepted: the session holds the edge too; trigger, samples and all other edges stay, and words past its 3,124 are as before. Where its marks were at
    exactly the pairs that stood, they are at exactly the pairs that stand now; the changes are the pairs that began to stand, ascending by size, at the
    front, and the places after them are as before; the answer tells whether the trigger fires, the number of pairs tried (the least set that the insertion
    can reach) and the number of changes. An accepted load leaves such marks, whatever it met; an accepted edit leaves them where it met them.
@@ -188,7 +191,7 @@ trigger_answer trigger_insert(
     int32_t *changes, size_t changes_length);
 
 /* Deletes the edge from start to end. Rules 3, 10, 11, 14.
-   Accepted: the session does not hold the edge; trigger, samples and all other edges stay, and words past its 3,123 are as before. Where its marks were at
+   Accepted: the session does not hold the edge; trigger, samples and all other edges stay, and words past its 3,124 are as before. Where its marks were at
    exactly the pairs that stood, they are at exactly the pairs that stand now; the changes are the pairs that ceased to stand, ascending by size, at the
    front, and the places after them are as before; the answer tells whether the trigger fires, the number of pairs that ceased as the trial count, and the
    number of changes.

@@ -1,4 +1,4 @@
-/* The session of the engine's description, played through the C interface. Standard output is compared with session.expected; that each call leaves alone
+/* The session of the engine's description, played through the C interface, and one with an inverted state. Standard output is compared with session.expected; that each call leaves alone
    what it is to leave alone is tested here, and a breach is written as a line of its own. */
 #include "trigger_engine.h"
 
@@ -131,7 +131,7 @@ int main(void)
     question("fires before the load", trigger_fires(session, words));
 
     begin();
-    report("load", trigger_load(session, words, masks, 2, values, 2, links, 2, samples, 2, no_edges, 0, no_edges, 0, changes, places));
+    report("load", trigger_load(session, words, masks, 2, values, 2, links, 2, 0, samples, 2, no_edges, 0, no_edges, 0, changes, places));
 
     insert("insert 0 1", 0, 1, places);
     insert("insert 1 0", 1, 0, places);
@@ -153,5 +153,19 @@ int main(void)
 
     order("order into 15 places", TRIGGER_ORDER_PLACES - 1);
     order("order", sizeof states);
+
+    /* state 1 is anything but the idle word, state 2 is the idle word */
+    const uint16_t idle[] = {0x0000, 0x0000};
+    const uint16_t words_seen[] = {0x0000, 0x00A5, 0x0001};
+    begin();
+    report("load of an inverted state that is not there",
+           trigger_load(session, words, masks, 2, idle, 2, links, 2, 4, words_seen, 3, no_edges, 0, no_edges, 0, changes, places));
+    begin();
+    report("load of an inverted state",
+           trigger_load(session, words, masks, 2, idle, 2, links, 2, 1, words_seen, 3, no_edges, 0, no_edges, 0, changes, places));
+    insert("insert 0 1", 0, 1, places);
+    insert("insert 1 0", 1, 0, places);
+    insert("insert 2 0", 2, 0, places);
+    delete_edge("delete 0 1", 0, 1);
     return 0;
 }

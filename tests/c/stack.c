@@ -51,7 +51,7 @@ static uint8_t order[TRIGGER_ORDER_PLACES];
 static uint32_t start, end, state, node;
 
 static uint16_t masks[TRIGGER_MAX_STATES], values[TRIGGER_MAX_STATES];
-static uint32_t links[TRIGGER_MAX_STATES];
+static uint32_t links[TRIGGER_MAX_STATES], inverted;
 static uint16_t samples[TRIGGER_MAX_NODES];
 static uint32_t starts[TRIGGER_MAX_EDGES], ends[TRIGGER_MAX_EDGES];
 static size_t states, nodes, edges;
@@ -62,7 +62,7 @@ static unsigned char from[TRIGGER_MAX_EDGES * 4], to[TRIGGER_MAX_EDGES * 4];
 typedef void any_call(void);
 typedef size_t number_call(void);
 typedef trigger_answer load_call(
-    uint32_t *, size_t, const uint16_t *, size_t, const uint16_t *, size_t, const uint32_t *, size_t, const uint16_t *, size_t,
+    uint32_t *, size_t, const uint16_t *, size_t, const uint16_t *, size_t, const uint32_t *, size_t, uint32_t, const uint16_t *, size_t,
     const uint32_t *, size_t, const uint32_t *, size_t, int32_t *, size_t);
 typedef trigger_answer edit_call(uint32_t *, size_t, uint32_t, uint32_t, int32_t *, size_t);
 typedef trigger_answer matches_call(const uint32_t *, size_t, uint32_t, uint32_t);
@@ -81,7 +81,7 @@ static void make_number(void)
 
 static void make_load(void)
 {
-    answer = ((load_call *)called)(session, words, masks, states, values, states, links, states, samples, nodes,
+    answer = ((load_call *)called)(session, words, masks, states, values, states, links, states, inverted, samples, nodes,
                                    starts, edges, ends, edges, changes, TRIGGER_CHANGE_PLACES);
 }
 
@@ -165,7 +165,7 @@ static struct measured session_words =
     {"trigger_session_words", make_number, (any_call *)trigger_session_words, TRIGGER_STACK_SESSION_WORDS, 0, 0};
 static struct measured change_places =
     {"trigger_change_places", make_number, (any_call *)trigger_change_places, TRIGGER_STACK_CHANGE_PLACES, 0, 0};
-static struct measured load = {"trigger_load", make_load, (any_call *)trigger_load, TRIGGER_STACK_LOAD, 10, 0};
+static struct measured load = {"trigger_load", make_load, (any_call *)trigger_load, TRIGGER_STACK_LOAD, 11, 0};
 static struct measured insert = {"trigger_insert", make_edit, (any_call *)trigger_insert, TRIGGER_STACK_INSERT, 0, 0};
 static struct measured delete_edge = {"trigger_delete", make_edit, (any_call *)trigger_delete, TRIGGER_STACK_DELETE, 0, 0};
 static struct measured matches = {"trigger_matches", make_matches, (any_call *)trigger_matches, TRIGGER_STACK_MATCHES, 0, 0};
@@ -204,12 +204,23 @@ static trigger_answer accepted(int yes, uint32_t trials, uint32_t count)
     return (trigger_answer)yes << 8 | (trigger_answer)trials << 16 | (trigger_answer)count << 40;
 }
 
-/* States that admit every node. */
+/* States that admit every node, whose samples are all zero: with a mask of zero, or inverted with another value. */
 enum links_kind { UNLINKED, CHAIN, RING, ALL };
+
+static void give_inverted(uint32_t set)
+{
+    inverted = set;
+    for (size_t i = 0; i < states; i++) {
+        const int turned = (set >> i & 1u) != 0;
+        masks[i] = turned ? 0xFFFF : 0;
+        values[i] = turned ? 0x5A00 : 0;
+    }
+}
 
 static void give_states(size_t count, enum links_kind kind)
 {
     states = count;
+    give_inverted(0);
     for (size_t i = 0; i < count; i++) {
         const size_t next = i + 1 < count ? i + 1 : 0;
         links[i] = kind == ALL ? (1u << count) - 1 : kind == RING || (kind == CHAIN && next != 0) ? 1u << next : 0;
@@ -266,6 +277,12 @@ static void measure_loads(void)
     give_states(16, RING);
     give_nodes(512, 4, 1);
     measure(&load, "16 states in a ring, 512 nodes, 2,048 edges, all stand", accepted(1, 8192, 8192));
+    give_inverted(0xAAAA);
+    measure(&load, "the same, every other state inverted", accepted(1, 8192, 8192));
+    give_inverted(0xFFFF);
+    measure(&load, "the same, all states inverted", accepted(1, 8192, 8192));
+    inverted = 0x10000;
+    measure(&load, "the same, refused for an inverted state that is not there", TRIGGER_STATES_WRONG);
     give_states(16, ALL);
     measure(&load, "the same, all states linked to all", accepted(1, 8192, 8192));
     starts[edges - 1] = 0;
@@ -288,6 +305,13 @@ static void measure_edits(void)
     measure(&insert, "ring of 512 nodes closed, 8,192 pairs begin", accepted(1, 8192, 8192));
     edit_given(trigger_insert, 511, 0);
     measure(&delete_edge, "ring of 512 nodes opened, 8,192 pairs cease", accepted(0, 8192, 8192));
+
+    give_inverted(0xAAAA);
+    give_session();
+    measure(&insert, "the same ring closed, every other state inverted", accepted(1, 8192, 8192));
+    edit_given(trigger_insert, 511, 0);
+    measure(&delete_edge, "the same ring opened, every other state inverted", accepted(0, 8192, 8192));
+    give_inverted(0);
 
     give_nodes(512, 4, 0);
     give_session();
@@ -329,6 +353,13 @@ static void measure_edits(void)
     edge(0, 1);
     measure(&insert, "the 2,048th edge, no pair begins", accepted(1, 0, 0));
 
+    give_inverted(0xAAAA);
+    give_session();
+    measure(&insert, "full session, every other state inverted, refused for an edge that is there", TRIGGER_EDGE_PRESENT);
+    measure(&delete_edge, "full session, every other state inverted, no pair ceases", accepted(1, 0, 0));
+    edit_given(trigger_delete, 0, 1);
+    measure(&insert, "the 2,048th edge, every other state inverted, no pair begins", accepted(1, 0, 0));
+
     session_given[0] = 0;
     measure(&insert, "refused for the layout", TRIGGER_NOT_IN_LAYOUT);
     measure(&delete_edge, "refused for the layout", TRIGGER_NOT_IN_LAYOUT);
@@ -348,6 +379,13 @@ static void measure_questions(void)
     measure(&ordering, "full session, 16 states in a ring", accepted(0, 0, 16));
     pair(17, 511);
     measure(&matches, "full session, refused for a state", TRIGGER_NAME_WRONG);
+
+    give_inverted(0xAAAA);
+    give_session();
+    pair(16, 511);
+    measure(&matches, "full session, every other state inverted, yes", accepted(1, 0, 0));
+    measure(&fires, "full session, every other state inverted, yes", accepted(1, 0, 0));
+    measure(&ordering, "full session, every other state inverted", accepted(0, 0, 16));
 
     give_states(16, CHAIN);
     give_session();

@@ -71,6 +71,7 @@ impl Frames {
         let mut next = || fields.next().expect("no frame of the benchmark is short");
         match &line[..2] {
             b"01" => case.state(next(), next(), next().into()),
+            b"07" => case.inverted_state(next(), next(), next().into()),
             b"02" => case.samples.push(next()),
             b"03" => return Some(subject.load(session, case, room)),
             b"04" => return Some(subject.insert(session, next().into(), next().into(), room)),

@@ -94,8 +94,10 @@ fn frame_of(edit: Edit) -> String {
 
 /// The frames that load a case. Of a chain the last edge comes first, so that hardly a pair is tried before the edits.
 fn loading(case: &Case) -> String {
-    let states = case.masks.iter().zip(&case.values).zip(&case.links);
-    let states = states.map(|((mask, value), links)| format!("01{mask:04X}{value:04X}{links:04X}\n"));
+    let states = (0..case.masks.len()).map(|state| {
+        let kind = if case.is_inverted(state) { "07" } else { "01" };
+        format!("{kind}{:04X}{:04X}{:04X}\n", case.masks[state], case.values[state], case.links[state])
+    });
     let nodes = case.samples.iter().map(|sample| format!("02{sample:04X}\n"));
     let run = std::iter::once("03\n".to_string());
     let edges = case.starts.iter().zip(&case.ends).rev().map(|(start, end)| frame_of(Edit::Insert(*start, *end)));

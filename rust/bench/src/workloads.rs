@@ -38,9 +38,13 @@ const MIXED: usize = 3;
 pub fn workloads(nodes: usize) -> Vec<Workload> {
     let random = &mut Random::new(nodes as u64, 7);
     let workload = |name, (case, calls)| Workload { name, nodes, case, calls };
+    let quiet = capture(random, nodes, QUIET);
+    let mixed = capture(random, nodes, MIXED);
+    let half = half_inverted(&mixed);
     vec![
-        workload("capture, quiet edits", capture(random, nodes, QUIET)),
-        workload("capture, mixed edits", capture(random, nodes, MIXED)),
+        workload("capture, quiet edits", quiet),
+        workload("capture, mixed edits", mixed),
+        workload("capture, half inverted", half),
         workload("capture, window slides", window(random, nodes)),
         workload("ring opened and closed", ring(random, nodes)),
         workload("chain with the grain", chain(nodes, |place| place)),
@@ -102,6 +106,11 @@ fn capture(random: &mut Random, nodes: usize, kinds: usize) -> (Case, Vec<Call>)
         calls.extend([delete(gone), insert(new)]);
     }
     (case, calls)
+}
+
+/// The same capture and edits with every other state inverted.
+fn half_inverted((case, calls): &(Case, Vec<Call>)) -> (Case, Vec<Call>) {
+    (Case { inverted: 0xAAAA, ..case.clone() }, calls.clone())
 }
 
 /// The edges of a capture in the order of their arrival: the newest comes in, the oldest goes out.

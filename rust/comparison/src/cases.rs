@@ -1,9 +1,12 @@
 //! Triggers and graphs to load.
 
 use crate::random::Random;
+use reference::Book;
+use reference::rules::{ROOM, SESSION};
+use reference::standing::admitted;
 use std::collections::BTreeSet;
 
-/// A trigger and a graph, a list for each field.
+/// A trigger and a graph, a list for each field, and the set of inverted states.
 #[derive(Clone, Debug, Default)]
 pub struct Case {
     /// The mask of each state.
@@ -12,6 +15,8 @@ pub struct Case {
     pub values: Vec<u16>,
     /// The links of each state.
     pub links: Vec<u32>,
+    /// The inverted states, bit 0 for State One.
+    pub inverted: u32,
     /// The sample of each node.
     pub samples: Vec<u16>,
     /// The start of each edge.
@@ -27,17 +32,29 @@ impl Case {
             masks: &self.masks,
             values: &self.values,
             links: &self.links,
+            inverted: self.inverted,
             samples: &self.samples,
             starts: &self.starts,
             ends: &self.ends,
         }
     }
 
-    /// Adds a state.
+    /// Adds a plain state.
     pub fn state(&mut self, mask: u16, value: u16, links: u32) {
         self.masks.push(mask);
         self.values.push(value);
         self.links.push(links);
+    }
+
+    /// Adds an inverted state.
+    pub fn inverted_state(&mut self, mask: u16, value: u16, links: u32) {
+        self.inverted |= 1 << self.masks.len();
+        self.state(mask, value, links);
+    }
+
+    /// Whether the state with this index is inverted.
+    pub fn is_inverted(&self, state: usize) -> bool {
+        self.inverted >> state & 1 == 1
     }
 
     /// Takes these edges in ascending order.
@@ -46,11 +63,15 @@ impl Case {
     }
 
     /// A random case with so many states, nodes and edges; fewer edges where the nodes do not have so many. `kinds` is
-    /// the number of different samples: the fewer, the more pairs are admitted.
+    /// the number of different samples: the fewer, the more pairs are admitted. Half of the cases have inverted states.
     pub fn random(random: &mut Random, states: usize, nodes: usize, edges: usize, kinds: usize) -> Case {
-        let mut case = Case::default();
-        for _ in 0..states {
-            let mask = *random.pick(&[0x0000, 0xFFFF, 0xFFFF, 0x0001, 0x0003, 0x8001]);
+        let mut case = Case { inverted: some_inverted(random, states), ..Case::default() };
+        for state in 0..states {
+            let mut mask = *random.pick(&[0x0000, 0xFFFF, 0xFFFF, 0x0001, 0x0003, 0x8001]);
+            // Inverted, a mask of zero admits nothing, and no pair stands that needs it: seldom, so that edits change pairs.
+            if mask == 0 && case.is_inverted(state) && !random.once_in(6) {
+                mask = 0xFFFF;
+            }
             let mut value = random.below(kinds) as u16;
             if random.once_in(8) {
                 value = random.word() as u16;
@@ -96,6 +117,27 @@ impl Case {
         case.edges(&edges);
         (case, last)
     }
+
+    /// The same links, edges and admissions with these states inverted: each state compares one bit of the sample, its
+    /// own, which the samples of a plain state have where it is admitted and those of an inverted one where it is not.
+    pub fn with_inverted(&self, inverted: u32) -> Case {
+        let (book, _) = Book::load(SESSION, ROOM, &self.given()).expect("the case breaks no rule");
+        let admitted = admitted(&book.trigger, &book.graph);
+        let mut case = Case { starts: self.starts.clone(), ends: self.ends.clone(), ..Case::default() };
+        for (state, links) in self.links.iter().enumerate() {
+            case.state(1 << state, 1 << state, *links);
+        }
+        case.inverted = inverted;
+        let bit = |state: usize, node: usize| u16::from(admitted.has(state, node) != case.is_inverted(state)) << state;
+        let sample = |node: usize| (0..self.masks.len()).map(|state| bit(state, node)).sum();
+        case.samples = (0..self.samples.len()).map(sample).collect();
+        case
+    }
+}
+
+/// A set of inverted states: none half of the time, else any but none.
+pub fn some_inverted(random: &mut Random, states: usize) -> u32 {
+    if random.once_in(2) { 0 } else { random.between(1, (1 << states) - 1) as u32 }
 }
 
 /// A set of links: none, one, a few or many.

@@ -13,7 +13,7 @@ use reference::rules::{ROOM, SESSION, delete_rules, insert_rules, question_rules
 use reference::standing::{admitted, fires, standing};
 use reference::trials::trial_set;
 use reference::walk::walk_order;
-use reference::{Graph, Relation, Report, Trigger};
+use reference::{Graph, Relation, Report, State, Trigger};
 use trigger_engine::lent::Answer;
 
 type Held = (Trigger, Graph, Relation);
@@ -133,7 +133,7 @@ fn edit<S: Subject>(
 /// The marks that a session holds for its states.
 fn left_marks(trigger: &Trigger, session: &[u32]) -> Relation {
     let nodes = session[1] as usize;
-    Relation::of(trigger.states.len(), nodes, |state, node| session[2611 + node] >> state & 1 == 1)
+    Relation::of(trigger.states.len(), nodes, |state, node| session[2612 + node] >> state & 1 == 1)
 }
 
 /// A loaded session with a rest past its fixed size.
@@ -195,8 +195,9 @@ fn small_sessions_damaged() {
         let edges = random.below(nodes * nodes + 1);
         let mut session = loaded(&Case::random(&mut random, states, nodes, edges, 2));
         for _ in 0..random.between(1, 2) {
-            let used = [(0, 3), (3, states), (19, states), (35, states), (51, nodes), (563, edges + 1), (2611, nodes)];
-            let section = if random.once_in(2) { used[6] } else { *random.pick(&used) };
+            let fields = [(4, states), (20, states), (36, states)];
+            let used = [[(0, 3), (3, 1)].as_slice(), &fields, &[(52, nodes), (564, edges + 1), (2612, nodes)]].concat();
+            let section = if random.once_in(2) { (2612, nodes) } else { *random.pick(&used) };
             let place = section.0 + random.below(section.1);
             session[place] = match random.below(3) {
                 0 => other(&mut random, session[place]),
@@ -227,7 +228,7 @@ fn edges_and_counts_damaged() {
         let states = random.between(1, 15);
         let whole = loaded(&Case::random(&mut random, states, nodes, edges, 3));
         let held = whole[2] as usize;
-        let place = 563 + random.below(held - 1);
+        let place = 564 + random.below(held - 1);
         let label = format!("seed {seed}, case {number}");
         let mut damaged = |change: &dyn Fn(&mut Vec<u32>)| {
             let mut session = whole.clone();
@@ -236,7 +237,7 @@ fn edges_and_counts_damaged() {
         };
         assert!(!damaged(&|session| session.swap(place, place + 1)));
         assert!(!damaged(&|session| session[place + 1] = session[place]));
-        assert!(!damaged(&|session| session[562 + held] = (nodes * 512) as u32));
+        assert!(!damaged(&|session| session[563 + held] = (nodes * 512) as u32));
         assert!(!damaged(&|session| session[2] += 1));
         assert!(!damaged(&|session| session[2] -= 1));
         assert!(!damaged(&|session| session[2] = 2049));
@@ -244,15 +245,75 @@ fn edges_and_counts_damaged() {
         assert!(!damaged(&|session| session[0] = 0));
         assert!(!damaged(&|session| session[0] = 17));
         assert!(!damaged(&|session| session[0] = u32::MAX));
-        assert!(!damaged(&|session| session[35] |= 1 << states));
-        assert!(!damaged(&|session| session[2611] |= 1 << states));
-        assert!(!damaged(&|session| session[3 + states] = 1));
+        assert!(!damaged(&|session| session[3] |= 1 << states));
         assert!(!damaged(&|session| session[3] |= 1 << 16));
-        assert!(!damaged(&|session| session[51] |= 1 << 31));
+        assert!(!damaged(&|session| session[3] |= 1 << 31));
+        assert!(!damaged(&|session| session[36] |= 1 << states));
+        assert!(!damaged(&|session| session[2612] |= 1 << states));
+        assert!(!damaged(&|session| session[4 + states] = 1));
+        assert!(!damaged(&|session| session[4] |= 1 << 16));
+        assert!(!damaged(&|session| session[52] |= 1 << 31));
         // One state or one node more, with nothing at it, is another session in layout.
         assert!(damaged(&|session| session[0] += 1));
         assert_eq!(damaged(&|session| session[1] += 1), nodes < 512);
     }
+}
+
+/// A state turned round is not admitted any more where it had a mark, and is where it had none. With its marks gone, or
+/// put where it is admitted now, the session is in layout again.
+#[test]
+fn inverted_word_damaged() {
+    let seed = seed("inverted_word_damaged");
+    let (mut marked, mut unmarked, mut moved) = (0, 0, 0);
+    for number in 0..1_500 {
+        let mut random = Random::new(seed, number);
+        let (states, nodes) = (random.between(1, 16), *random.pick(&[1, 2, 7, 16, 40, 512]));
+        let edges = random.below(4 * nodes);
+        let mut case = Case::random(&mut random, states, nodes, edges, 3);
+        // Unlinked states stand wherever they are admitted.
+        case.links.iter_mut().filter(|_| random.once_in(3)).for_each(|links| *links = 0);
+        let whole = loaded(&case);
+        let state = random.below(states);
+        let label = format!("seed {seed}, case {number}, state {state}");
+        let mut damaged = |change: &dyn Fn(&mut Vec<u32>)| {
+            let mut session = whole.clone();
+            session[3] ^= 1 << state;
+            change(&mut session);
+            let in_layout = all_calls(Engine, &session, &mut random, &label);
+            assert_eq!(in_layout, all_calls(Twin, &session, &mut random, &label), "{label}");
+            in_layout
+        };
+        let has_mark = whole[2612..SESSION].iter().any(|word| word >> state & 1 == 1);
+        assert_eq!(damaged(&|_| ()), !has_mark, "{label}");
+        if has_mark {
+            marked += 1
+        } else {
+            unmarked += 1
+        }
+        assert!(
+            damaged(&|session| session[2612..SESSION].iter_mut().for_each(|word| *word &= !(1 << state))),
+            "{label}"
+        );
+        // Marks at every pair that is admitted now; with one more, at a pair that is not, out of layout again.
+        let turned = State::new(case.masks[state], case.values[state], 0, !case.is_inverted(state));
+        let admitted = |node: usize| turned.admits(case.samples[node]);
+        let put = |session: &mut Vec<u32>| {
+            for node in 0..nodes {
+                session[2612 + node] &= !(1 << state);
+                session[2612 + node] |= u32::from(admitted(node)) << state;
+            }
+        };
+        assert!(damaged(&put), "{label}");
+        if let Some(node) = (0..nodes).rev().find(|node| !admitted(*node)) {
+            moved += 1;
+            let one_more = |session: &mut Vec<u32>| {
+                put(session);
+                session[2612 + node] |= 1 << state;
+            };
+            assert!(!damaged(&one_more), "{label}");
+        }
+    }
+    assert!(marked > 200 && unmarked > 200 && moved > 200, "{marked} marked, {unmarked} not, {moved} moved");
 }
 
 #[test]
@@ -266,7 +327,7 @@ fn zeroed_memory_is_not_in_layout() {
 fn short_memory() {
     let mut random = Random::new(2, 2);
     let whole = loaded(&Case::random(&mut random, 3, 6, 12, 2));
-    for words in [0, 1, 2, 3, 562, 563, 2611, SESSION - 1] {
+    for words in [0, 1, 2, 3, 4, 563, 564, 2612, SESSION - 1] {
         let mut session = whole[..words].to_vec();
         let mut room = vec![7; ROOM];
         let case = Case::random(&mut random, 3, 6, 12, 2);

@@ -1,5 +1,6 @@
 //! Loads and long lists of edits, refused ones included, compared after each call.
 
+use comparison::cases::some_inverted;
 use comparison::random::seed;
 use comparison::{Case, Edit, Engine, Follower, Random, Subject, Twin};
 
@@ -76,14 +77,14 @@ fn large_sizes() {
 
 #[test]
 fn every_limit_at_once() {
-    let changed = follow(Engine, "every_limit_at_once", 30, 60, full);
+    let changed = follow(Engine, "every_limit_at_once", 30, 120, full);
     assert!(changed > 30, "only {changed} edits changed a pair");
 }
 
 #[test]
 fn one_long_list() {
     let case = |random: &mut Random| Case::random(random, 6, 24, 60, 3);
-    let changed = follow(Engine, "one_long_list", 8, 20_000, case);
+    let changed = follow(Engine, "one_long_list", 20, 12_000, case);
     assert!(changed > 2_000, "only {changed} edits changed a pair");
 }
 
@@ -94,16 +95,22 @@ fn the_twin_of_the_benchmark() {
     follow(Twin, "the_twin_of_the_benchmark", 10, 60, full);
 }
 
-/// A ring of states on a ring of nodes: nothing stands while it is open, everything when it is closed.
+/// A ring of states on a ring of nodes: nothing stands while it is open, everything when it is closed. Half of the rings
+/// have inverted states, which admit the same nodes.
 #[test]
 fn rings_opened_and_closed() {
     let seed = seed("rings_opened_and_closed");
     let sizes = [(1, 1), (1, 2), (2, 1), (2, 3), (3, 5), (5, 7), (16, 1), (16, 8), (16, 32), (1, 512), (7, 73)];
     for (number, (states, turns)) in sizes.into_iter().enumerate() {
-        for closed in [false, true] {
+        for (closed, inverts) in [(false, false), (true, false), (false, true), (true, true)] {
             let mut random = Random::new(seed, number as u64);
-            let label = format!("ring of {states} states and {turns} turns, seed {seed}");
-            let (case, (a, b)) = Case::ring(&mut random, states, turns, closed);
+            let (mut case, (a, b)) = Case::ring(&mut random, states, turns, closed);
+            if inverts {
+                let inverted = random.between(1, (1 << states) - 1) as u32;
+                case = case.with_inverted(inverted);
+            }
+            let inverted = case.inverted;
+            let label = format!("ring of {states} states and {turns} turns, inverted {inverted:#x}, seed {seed}");
             let mut follower = Follower::load(Engine, &mut random, &label, &case);
             let nodes = states * turns;
             let (insert, delete) = (Edit::Insert(a, b), Edit::Delete(a, b));
@@ -141,18 +148,21 @@ fn every_graph_of_two_nodes() {
     every_graph(3, 2);
 }
 
+/// Half of the triggers have inverted states.
 fn every_graph(states: usize, nodes: usize) {
     let mut random = Random::new(1, 1);
     for links in 0..1u32 << (states * states) {
         for admission in 0..1u32 << (states * nodes) {
-            // State s compares bit s alone; the sample of a node has the bits of the states that admit it.
-            let mut case = Case::default();
+            // State s compares bit s alone; the sample of a node has the bits of the plain states that admit it, and of
+            // the inverted ones that do not.
+            let mut case = Case { inverted: some_inverted(&mut random, states), ..Case::default() };
             for state in 0..states {
                 let word = links >> (state * states) & ((1 << states) - 1);
                 case.state(1 << state, 1 << state, word);
             }
             for node in 0..nodes {
-                case.samples.push((admission >> (node * states)) as u16 & ((1 << states) - 1));
+                let admitting = admission >> (node * states) & ((1 << states) - 1);
+                case.samples.push((admitting ^ case.inverted) as u16);
             }
             let label = format!("{states} states, {nodes} nodes, links {links}, admission {admission}");
             let mut follower = Follower::load(Engine, &mut random, &label, &case);

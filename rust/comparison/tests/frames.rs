@@ -11,7 +11,7 @@ type Kinds = BTreeMap<String, usize>;
 
 /// A line that is no frame, or not the one it was made from.
 fn damaged(random: &mut Random) -> Vec<u8> {
-    let frames = ["01FFFF00010002", "020001", "03", "0400000001", "0500010000", "06"];
+    let frames = ["01FFFF00010002", "07FFFF00010002", "020001", "03", "0400000001", "0500010000", "06"];
     let mut line = random.pick(&frames).as_bytes().to_vec();
     let place = random.below(line.len());
     match random.below(12) {
@@ -24,7 +24,7 @@ fn damaged(random: &mut Random) -> Vec<u8> {
         6 => line[place] = *random.pick(b"abcdefgGxX/:@`-+. \0\xFF\x80"),
         7 => line[1] = *random.pick(b"0789ABCDEFabf"),
         8 => line[0] = *random.pick(b"18F/:"),
-        9 => line = format!("0{}{:04x}", random.between(1, 6), random.below(65_536)).into_bytes(),
+        9 => line = format!("0{}{:04x}", random.between(1, 7), random.below(65_536)).into_bytes(),
         10 => line = vec![*random.pick(b"0A"); random.between(15, 5_000)],
         _ => line = (0..random.below(20)).map(|_| random.word() as u8).filter(|byte| *byte != b'\n').collect(),
     }
@@ -50,12 +50,15 @@ fn session(random: &mut Random, sizes: &Sizes) -> Vec<u8> {
             _ => bit(random) | bit(random),
         }
     };
+    // Half of the sessions have inverted states.
+    let inverts = random.once_in(2);
+    let kind = |random: &mut Random| if inverts && random.once_in(2) { "07" } else { "01" };
     for _ in 0..sizes.states {
         let mask = *random.pick(&[0xFFFF, 0xFFFF, 0x0001, 0x0000]);
         // Now and then a link goes to a state that comes later, or never.
         let within = if random.once_in(30) { 16 } else { sizes.states.min(16) };
         let (value, links) = (random.below(sizes.kinds), links(random, within));
-        lines.push(format!("01{mask:04X}{value:04X}{links:04X}").into_bytes());
+        lines.push(format!("{}{mask:04X}{value:04X}{links:04X}", kind(random)).into_bytes());
     }
     for _ in 0..sizes.nodes {
         lines.push(format!("02{:04X}", random.below(sizes.kinds)).into_bytes());
@@ -71,7 +74,7 @@ fn session(random: &mut Random, sizes: &Sizes) -> Vec<u8> {
     if random.once_in(4) {
         // A refused run may be mended by more states.
         for _ in 0..random.below(16) {
-            lines.push(b"01FFFF00010000".to_vec());
+            lines.push(format!("{}FFFF00010000", kind(random)).into_bytes());
         }
         lines.push(b"03".to_vec());
     }
@@ -80,7 +83,7 @@ fn session(random: &mut Random, sizes: &Sizes) -> Vec<u8> {
         let nodes = sizes.nodes.max(1);
         let line = match random.below(20) {
             0 => "06".to_string(),
-            1 => random.pick(&["03", "020001", "01FFFF00010002"]).to_string(),
+            1 => random.pick(&["03", "020001", "01FFFF00010002", "07FFFF00010002"]).to_string(),
             2 => format!("04{:04X}{:04X}", random.below(nodes + 2), random.below(65_536)),
             3 => format!("05{:04X}{:04X}", random.below(nodes), random.below(nodes)),
             4..=8 if !held.is_empty() => {
@@ -175,6 +178,33 @@ fn sessions_at_the_limits() {
         kinds: random.between(4, 20),
         damages: 10,
     });
+}
+
+/// Sixteen states of both kinds. One more of either kind meets 4 at its line; after the run both meet 2; a state frame of
+/// the wrong length meets 1 at any moment.
+#[test]
+fn states_of_both_kinds() {
+    let Some(program) = path() else { return };
+    let mut random = Random::new(seed("states_of_both_kinds"), 0);
+    for inverted in [0x0000, 0xFFFF, 0x5555, 0xFFFE, 0x7FFF, 0x8001] {
+        let kind = |state: usize| if inverted >> state & 1 == 1 { "07" } else { "01" };
+        let mut input: String = (0..16).map(|state| format!("{}FFFF{state:04X}0000\n", kind(state))).collect();
+        input += "07FFFF00000000\n01FFFF00000000\n07FFFF0000000\n07FFFF000000000\n0200FF\n020003\n03\n";
+        input += "07FFFF00000000\n01FFFF00000000\n07FFFF0000\n06\n";
+        // No state is 00FF, so all inverted ones are at node 0; state 4 is 0003.
+        let at_node = |node: usize, set: usize| -> String {
+            (0..16)
+                .filter(|state| set >> state & 1 == 1)
+                .map(|state| format!("81{:08X}\n", node * 64 + state + 1))
+                .collect()
+        };
+        let lists = at_node(0, inverted) + &at_node(1, inverted ^ 0x0008);
+        let (count, fires) = (lists.lines().count(), u8::from(inverted | inverted ^ 0x0008 == 0xFFFF));
+        let wanted = format!("8F04\n8F04\n8F01\n8F01\n80{fires:02X}{count:04X}{count:04X}\n{lists}8F02\n8F02\n8F01\n")
+            + "820102030405060708090A0B0C0D0E0F10\n";
+        assert_eq!(output(input.as_bytes()), wanted.as_bytes(), "inverted {inverted:04X}");
+        assert!(run(&program, &mut random, input.as_bytes()) == wanted.as_bytes(), "inverted {inverted:04X}");
+    }
 }
 
 /// More insertions than there are places for edges.

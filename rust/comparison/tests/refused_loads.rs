@@ -10,12 +10,13 @@ use reference::rules::{ROOM, SESSION};
 fn damage(random: &mut Random, case: &mut Case, rule: u8) {
     let states = case.masks.len();
     match rule {
-        4 => match random.below(6) {
+        4 => match random.below(7) {
             0 => *case = Case { masks: vec![], values: vec![], links: vec![], ..case.clone() },
             1 => (0..17).for_each(|_| case.state(random.word() as u16, 0, 0)),
             2 => drop(case.masks.pop()),
             3 => case.values.push(random.word() as u16),
             4 => case.links.push(0),
+            5 => case.inverted |= 1 << random.between(states, 31),
             _ => drop(case.links.pop()),
         },
         5 => {
@@ -82,7 +83,7 @@ fn the_first_rule_broken_is_answered() {
         let mut lengths = [SESSION + random.below(3), ROOM + random.below(3)];
         if random.once_in(10) {
             let short = random.below(2);
-            lengths[short] = *random.pick(&[0, 1, 3122, 8191]);
+            lengths[short] = *random.pick(&[0, 1, 3123, 8191]);
         }
         let mut session: Vec<u32> = (0..lengths[0]).map(|i| i as u32 ^ 0xA5A5).collect();
         let mut room: Vec<i32> = (0..lengths[1]).map(|i| i as i32 ^ 0x5A5A).collect();
@@ -104,6 +105,37 @@ fn the_first_rule_broken_is_answered() {
     }
     for rule in [0, 3, 4, 5, 6, 7, 8, 9] {
         assert!(answers[rule].iter().all(|count| *count > 50), "rule {rule}: {:?}", answers[rule]);
+    }
+}
+
+/// A state that is not there can not be inverted: it is given in part, which is told before its links are looked at.
+#[test]
+fn inverted_states_that_are_not_there() {
+    for states in 1..=16 {
+        let mut case = Case { samples: vec![0; 3], ..Case::default() };
+        (0..states).for_each(|_| case.state(0xFFFF, 0, 0));
+        for bit in 0..32 {
+            case.inverted = 1 << bit;
+            for links in [0, 1 << states] {
+                case.links[states - 1] = links;
+                let (mut session, mut room) = (vec![9; SESSION], vec![9; ROOM]);
+                let answer = Engine.load(&mut session, &case, &mut room);
+                let label = format!("{states} states, inverted {:#x}, links {links:#x}", case.inverted);
+                let wanted = if bit >= states {
+                    4
+                } else if links != 0 {
+                    5
+                } else {
+                    0
+                };
+                assert_eq!(answer.rule(), wanted, "{label}");
+                assert_eq!(Book::load(SESSION, ROOM, &case.given()).err().unwrap_or(0), wanted, "{label}");
+                if wanted != 0 {
+                    assert_eq!(answer, refused(wanted), "{label}");
+                    assert!(session.iter().all(|word| *word == 9) && room.iter().all(|place| *place == 9), "{label}");
+                }
+            }
+        }
     }
 }
 

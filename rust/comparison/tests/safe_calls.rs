@@ -28,8 +28,14 @@ fn a_session_answers_as_the_book_does() {
         let (states, nodes) = (random.between(1, 16), random.between(1, 20));
         let edges = random.below(3 * nodes);
         let case = Case::random(random, states, nodes, edges, 3);
-        let state = |i: usize| State { mask: case.masks[i], value: case.values[i], links: case.links[i] };
-        let given: Vec<State> = (0..states).map(state).collect();
+        let fields = case.masks.iter().zip(&case.values).zip(&case.links).enumerate();
+        let state = |(place, ((mask, value), links)): (usize, ((&u16, &u16), &u32))| State {
+            mask: *mask,
+            value: *value,
+            links: *links,
+            inverted: case.is_inverted(place),
+        };
+        let given: Vec<State> = fields.map(state).collect();
         let edges: Vec<(u32, u32)> = case.starts.iter().copied().zip(case.ends.iter().copied()).collect();
         let (mut book, report) = Book::load(SESSION, ROOM, &case.given()).unwrap();
         assert_eq!(told(session.load(&given, &case.samples, &edges)), wanted(Ok(report)), "{label}");

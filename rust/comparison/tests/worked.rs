@@ -3,7 +3,11 @@
 use trigger_engine::{Change, Rule, Session, State};
 
 fn state(mask: u16, value: u16, links: u32) -> State {
-    State { mask, value, links }
+    State { mask, value, links, inverted: false }
+}
+
+fn inverted(mask: u16, value: u16, links: u32) -> State {
+    State { inverted: true, ..state(mask, value, links) }
 }
 
 fn begins(state: u8, node: u16) -> Change {
@@ -57,6 +61,45 @@ fn a_mask_of_zero_admits_every_node() {
     assert_eq!(report, Ok((true, 2, vec![begins(1, 0), begins(1, 1)])));
 }
 
+/// The idle word is 0000: the inverted state stands everywhere else.
+#[test]
+fn anything_but_the_idle_word() {
+    let mut session = Session::new();
+    let samples = [0x0000, 0x0001, 0x0000, 0x8000, 0xFFFF];
+    let busy = [inverted(0xFFFF, 0x0000, 0)];
+    let report = told(session.load(&busy, &samples, &[]));
+    assert_eq!(report, Ok((true, 3, vec![begins(1, 1), begins(1, 3), begins(1, 4)])));
+    assert_eq!(session.matches(1, 0), Ok(false));
+    assert_eq!(session.matches(1, 1), Ok(true));
+    assert_eq!(told(session.load(&busy, &[0, 0], &[])), Ok((false, 0, vec![])));
+
+    // Bits outside the mask are ignored: both words with low byte 01 are not admitted.
+    let report = told(session.load(&[inverted(0x00FF, 0x1201, 0)], &[0x0001, 0xFF01, 0x0101, 0x0102], &[]));
+    assert_eq!(report, Ok((true, 1, vec![begins(1, 3)])));
+}
+
+/// Busy and idle in turns: one edge closes the ring, and one opens it.
+#[test]
+fn an_inverted_state_in_a_ring() {
+    let mut session = Session::new();
+    let states = [inverted(0xFFFF, 0, 0b10), state(0xFFFF, 0, 0b01)];
+    assert_eq!(told(session.load(&states, &[0, 5], &[])), Ok((false, 2, vec![])));
+    assert_eq!(told(session.insert(0, 1)), Ok((false, 1, vec![])));
+    assert_eq!(told(session.insert(1, 0)), Ok((true, 2, vec![begins(2, 0), begins(1, 1)])));
+    assert_eq!(told(session.delete(0, 1)), Ok((false, 2, vec![ceases(2, 0), ceases(1, 1)])));
+    assert_eq!(session.words()[3], 0b01);
+}
+
+#[test]
+fn an_inverted_mask_of_zero_admits_nothing() {
+    let mut session = Session::new();
+    let states = [inverted(0, 0x00FF, 0), state(0, 0, 0b01)];
+    let report = told(session.load(&states, &[0x0000, 0x00FF], &[(0, 1)]));
+    assert_eq!(report, Ok((false, 2, vec![])));
+    // Its link goes to a state that admits nothing: no pair is tried.
+    assert_eq!(told(session.insert(1, 0)), Ok((false, 0, vec![])));
+}
+
 #[test]
 fn marks_are_held_where_the_trigger_does_not_fire() {
     let mut session = Session::new();
@@ -74,6 +117,11 @@ fn limits() {
     assert!(session.load(&states(16), &[], &[]).is_ok());
     assert_eq!(told(session.load(&states(17), &[], &[])), Err(Rule::States));
     assert_eq!(told(session.load(&[], &[], &[])), Err(Rule::States));
+    // More states than the set of inverted ones has bits for, and all of them inverted.
+    for count in [16, 17, 32, 33, 70] {
+        let answer = told(session.load(&vec![inverted(0xFFFF, 0, 0); count], &[], &[]));
+        assert_eq!(answer, if count == 16 { Ok((false, 0, vec![])) } else { Err(Rule::States) });
+    }
     assert!(session.load(&states(1), &[0; 512], &[]).is_ok());
     assert_eq!(told(session.load(&states(1), &[0; 513], &[])), Err(Rule::Nodes));
     for count in 1..=16 {
@@ -105,14 +153,20 @@ fn the_worked_memory() {
     let mut session = Session::new();
     let states = [state(0xFFFF, 1, 0b10), state(0xFFFF, 2, 0b01)];
     session.load(&states, &[1, 2], &[(0, 1), (1, 0)]).unwrap();
-    let mut wanted = vec![0; 3123];
+    let mut wanted = vec![0; 3124];
     wanted[..3].fill(2);
-    wanted[3..5].fill(65_535);
-    for at in [19, 51, 2611] {
+    wanted[4..6].fill(65_535);
+    for at in [20, 52, 2612] {
         wanted[at..at + 2].copy_from_slice(&[1, 2]);
     }
-    wanted[35..37].copy_from_slice(&[2, 1]);
-    wanted[563..565].copy_from_slice(&[1, 512]);
+    wanted[36..38].copy_from_slice(&[2, 1]);
+    wanted[564..566].copy_from_slice(&[1, 512]);
     assert_eq!(session.words(), wanted);
     assert_eq!(session.order(), Ok(vec![1, 2]));
+
+    // The same marks where state 2 is anything but 1.
+    session.load(&[states[0], inverted(0xFFFF, 1, 0b01)], &[1, 2], &[(0, 1), (1, 0)]).unwrap();
+    wanted[3] = 0b10;
+    wanted[21] = 1;
+    assert_eq!(session.words(), wanted);
 }

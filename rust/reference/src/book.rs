@@ -5,7 +5,7 @@ use crate::rules::{Given, delete_rules, insert_rules, load_rules, question_rules
 use crate::standing::{admitted, fires, standing};
 use crate::trials::trial_set;
 use crate::walk::walk_order;
-use crate::{Graph, Relation, State, Trigger};
+use crate::{Graph, Relation, Trigger};
 
 /// What an accepted call reports.
 #[derive(Clone, Debug, PartialEq, Eq)]
@@ -33,8 +33,7 @@ impl Book {
     /// A load into a session memory and with a change room of these lengths.
     pub fn load(memory: usize, room: usize, given: &Given) -> Result<(Book, Report), u8> {
         load_rules(memory, room, given)?;
-        let state = |i: usize| State::new(given.masks[i], given.values[i], given.links[i]);
-        let trigger = Trigger { states: (0..given.masks.len()).map(state).collect() };
+        let trigger = Trigger::new(given.masks, given.values, given.links, given.inverted);
         let mut graph = Graph::new(given.samples);
         for (start, end) in given.starts.iter().zip(given.ends) {
             graph.ends[*start as usize].insert(*end as usize);

@@ -6,7 +6,7 @@ use crate::{Book, Given, Report};
 /// A frame of the input.
 #[derive(Clone, Copy, Debug, PartialEq, Eq)]
 enum Frame {
-    State { mask: u16, value: u16, links: u16 },
+    State { mask: u16, value: u16, links: u16, inverted: bool },
     Node { sample: u16 },
     Run,
     Insert { start: u16, end: u16 },
@@ -20,6 +20,7 @@ struct Program {
     masks: Vec<u16>,
     values: Vec<u16>,
     links: Vec<u32>,
+    inverted: u32,
     samples: Vec<u16>,
     book: Option<Book>,
 }
@@ -67,12 +68,13 @@ fn frame(line: &[u8]) -> Option<Frame> {
     }
     let words: Vec<u16> = rest.chunks(4).map(word).collect::<Option<_>>()?;
     match (kind, words.as_slice()) {
-        (b"01", &[mask, value, links]) => Some(Frame::State { mask, value, links }),
+        (b"01", &[mask, value, links]) => Some(Frame::State { mask, value, links, inverted: false }),
         (b"02", &[sample]) => Some(Frame::Node { sample }),
         (b"03", &[]) => Some(Frame::Run),
         (b"04", &[start, end]) => Some(Frame::Insert { start, end }),
         (b"05", &[start, end]) => Some(Frame::Delete { start, end }),
         (b"06", &[]) => Some(Frame::Order),
+        (b"07", &[mask, value, links]) => Some(Frame::State { mask, value, links, inverted: true }),
         _ => None,
     }
 }
@@ -101,7 +103,10 @@ impl Program {
     fn before_run(&mut self, frame: Frame) -> Result<String, u8> {
         match frame {
             Frame::State { .. } if self.masks.len() == STATES => Err(4),
-            Frame::State { mask, value, links } => {
+            Frame::State { mask, value, links, inverted } => {
+                if inverted {
+                    self.inverted |= 1 << self.masks.len();
+                }
                 self.masks.push(mask);
                 self.values.push(value);
                 self.links.push(links.into());
@@ -117,6 +122,7 @@ impl Program {
                     masks: &self.masks,
                     values: &self.values,
                     links: &self.links,
+                    inverted: self.inverted,
                     samples: &self.samples,
                     starts: &[],
                     ends: &[],
@@ -165,10 +171,23 @@ mod tests {
     #[test]
     fn lines_that_are_no_frames() {
         assert_eq!(output(b""), b"");
-        for line in ["", "0", "3", "07", "00", "80", "03\r", " 03", "0300", "01FFFF0001000", "02000a", "0A"] {
+        let lengths = ["", "0", "3", "07", "0300", "01FFFF0001000", "07FFFF0001000", "07FFFF000100000"];
+        let kinds_and_digits = ["00", "0A", "80", "03\r", " 03", "02000a", "07FFFF0001000a"];
+        for line in lengths.into_iter().chain(kinds_and_digits) {
             assert_eq!(output(format!("{line}\n").as_bytes()), b"8F01\n", "{line:?}");
         }
         assert_eq!(output(b"03"), b"8F04\n");
         assert_eq!(output(b"0400000000\n06"), b"8F02\n8F02\n");
+    }
+
+    #[test]
+    fn inverted_states() {
+        // State One is anything but 0001; the state after it is 0001.
+        let input = b"07FFFF00010000\n01FFFF00010000\n020001\n020002\n03\n07FFFF00010000\n";
+        assert_eq!(output(input), b"800100020002\n8100000002\n8100000041\n8F02\n");
+        // A link to a state that is not there, and a 17th state of either kind.
+        assert_eq!(output(b"07FFFF00010002\n03\n"), b"8F05\n");
+        let states = "07000000000000\n01000000000000\n".repeat(9);
+        assert_eq!(output(states.as_bytes()), b"8F04\n8F04\n");
     }
 }

@@ -23,6 +23,7 @@ pub fn image(trigger: &Trigger, graph: &Graph, marks: &Relation) -> Vec<u32> {
     };
     let image = [
         section(3, counts.iter().map(|count| *count as u32)),
+        section(1, std::iter::once(trigger.inverted_word())),
         section(STATES, states().map(|state| state.mask.into())),
         section(STATES, states().map(|state| state.value.into())),
         section(STATES, states().map(State::link_word)),
@@ -47,22 +48,25 @@ pub fn held(memory: &[u32]) -> Option<(Trigger, Graph, Relation)> {
     if !(1..=STATES).contains(&states) || nodes > NODES || edges > EDGES {
         return None;
     }
+    let inverted = fixed[3];
     let short = |word: &u32| u16::try_from(*word).ok();
-    let masks: Vec<u16> = fixed[3..][..states].iter().map(short).collect::<Option<_>>()?;
-    let values: Vec<u16> = fixed[19..][..states].iter().map(short).collect::<Option<_>>()?;
-    let links = &fixed[35..][..states];
-    let samples: Vec<u16> = fixed[51..][..nodes].iter().map(short).collect::<Option<_>>()?;
-    let numbers = &fixed[563..][..edges];
-    let words = &fixed[2611..][..nodes];
+    let masks: Vec<u16> = fixed[4..][..states].iter().map(short).collect::<Option<_>>()?;
+    let values: Vec<u16> = fixed[20..][..states].iter().map(short).collect::<Option<_>>()?;
+    let links = &fixed[36..][..states];
+    let samples: Vec<u16> = fixed[52..][..nodes].iter().map(short).collect::<Option<_>>()?;
+    let numbers = &fixed[564..][..edges];
+    let words = &fixed[2612..][..nodes];
 
+    if bits(inverted).any(|bit| bit >= states) {
+        return None;
+    }
     if links.iter().any(|word| bits(*word).any(|bit| bit >= states)) {
         return None;
     }
     if numbers.windows(2).any(|two| two[0] >= two[1]) {
         return None;
     }
-    let state = |i: usize| State::new(masks[i], values[i], links[i]);
-    let trigger = Trigger { states: (0..states).map(state).collect() };
+    let trigger = Trigger::new(&masks, &values, links, inverted);
     let mut graph = Graph::new(&samples);
     for number in numbers {
         let (start, end) = (*number as usize / 512, *number as usize % 512);

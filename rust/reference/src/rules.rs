@@ -10,11 +10,11 @@ pub const NODES: usize = 512;
 /// The most edges of a graph.
 pub const EDGES: usize = 2048;
 /// The fixed size of a session in words.
-pub const SESSION: usize = 3123;
+pub const SESSION: usize = 3124;
 /// The places that a change room has at least.
 pub const ROOM: usize = 8192;
 
-/// What a load is given, a list for each field.
+/// What a load is given, a list for each field, and the set of inverted states.
 #[derive(Clone, Copy, Debug)]
 pub struct Given<'a> {
     /// The mask of each state.
@@ -23,6 +23,8 @@ pub struct Given<'a> {
     pub values: &'a [u16],
     /// The links of each state, bit 0 for State One.
     pub links: &'a [u32],
+    /// The inverted states, bit 0 for State One.
+    pub inverted: u32,
     /// The sample of each node.
     pub samples: &'a [u16],
     /// The start of each edge.
@@ -47,7 +49,9 @@ fn short(memory: usize, room: usize) -> bool {
 /// The rules of a load, for a memory and a room of these lengths.
 pub fn load_rules(memory: usize, room: usize, given: &Given) -> Result<(), u8> {
     let states = given.masks.len();
-    let state_in_part = given.values.len() != states || given.links.len() != states;
+    // An inversion of a state that has neither mask nor value.
+    let inversion_alone = bits(given.inverted).any(|bit| bit >= states);
+    let state_in_part = given.values.len() != states || given.links.len() != states || inversion_alone;
     let nodes = given.samples.len();
     let edge_in_part = given.starts.len() != given.ends.len();
     let edges: Vec<(u32, u32)> = given.starts.iter().copied().zip(given.ends.iter().copied()).collect();

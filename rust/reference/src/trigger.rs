@@ -1,4 +1,4 @@
-//! Triggers: states with a mask, a value and links.
+//! Triggers: states with a mask, a value and links, plain or inverted.
 
 use std::collections::BTreeSet;
 
@@ -11,6 +11,8 @@ pub struct State {
     pub value: u16,
     /// The states linked to.
     pub links: BTreeSet<usize>,
+    /// Whether it admits exactly the nodes that its plain form does not.
+    pub inverted: bool,
 }
 
 /// A trigger: states by index.
@@ -22,12 +24,17 @@ pub struct Trigger {
 
 impl State {
     /// A state with its links as a word, bit 0 for State One.
-    pub fn new(mask: u16, value: u16, links: u32) -> State {
-        State { mask, value, links: bits(links).collect() }
+    pub fn new(mask: u16, value: u16, links: u32, inverted: bool) -> State {
+        State { mask, value, links: bits(links).collect(), inverted }
+    }
+
+    /// Whether the state admits a sample.
+    pub fn admits(&self, sample: u16) -> bool {
+        if self.inverted { !self.plain_admits(sample) } else { self.plain_admits(sample) }
     }
 
     /// Whether value and sample agree in every bit that is 1 in the mask.
-    pub fn admits(&self, sample: u16) -> bool {
+    fn plain_admits(&self, sample: u16) -> bool {
         (0..16).all(|bit| {
             let one = |word: u16| word >> bit & 1 == 1;
             !one(self.mask) || one(self.value) == one(sample)
@@ -37,6 +44,20 @@ impl State {
     /// The links as a word.
     pub fn link_word(&self) -> u32 {
         self.links.iter().map(|link| 1 << link).sum()
+    }
+}
+
+impl Trigger {
+    /// The states of lists for each field; `inverted` has bit 0 for State One.
+    pub fn new(masks: &[u16], values: &[u16], links: &[u32], inverted: u32) -> Trigger {
+        let state = |i: usize| State::new(masks[i], values[i], links[i], bits(inverted).any(|bit| bit == i));
+        Trigger { states: (0..masks.len()).map(state).collect() }
+    }
+
+    /// The inverted states as a word.
+    pub fn inverted_word(&self) -> u32 {
+        let states = self.states.iter().enumerate();
+        states.filter(|(_, state)| state.inverted).map(|(place, _)| 1 << place).sum()
     }
 }
 

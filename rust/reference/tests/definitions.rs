@@ -1,5 +1,5 @@
-//! The fixed points held against their definitions, by trying every set of pairs: all triggers of two states, all
-//! admissions and all graphs of two nodes, each with every edge inserted or deleted.
+//! The fixed points held against their definitions, by trying every set of pairs: all triggers of two states, plain and
+//! inverted, all samples and all graphs of two nodes, each with every edge inserted or deleted.
 
 use reference::rules::{ROOM, SESSION};
 use reference::standing::admitted;
@@ -17,11 +17,18 @@ fn bits(relation: &Relation) -> u32 {
     relation.pairs().map(|(state, node)| 1 << (node * STATES + state)).sum()
 }
 
+/// The admitted pairs: a plain state wants its own bit of the sample, an inverted one wants it to be missing.
+fn admissions(trigger: &Trigger, graph: &Graph) -> Relation {
+    let one = |state: usize, node: usize| graph.samples[node] >> state & 1 == 1;
+    Relation::of(STATES, NODES, |state, node| one(state, node) ^ trigger.states[state].inverted)
+}
+
 /// Whether each pair is admitted, and each link of its state is carried by an edge into the set.
 fn is_simulation(trigger: &Trigger, graph: &Graph, set: &Relation) -> bool {
+    let admitted = admissions(trigger, graph);
     set.pairs().all(|(state, node)| {
         let carried = |target: &usize| (0..NODES).any(|end| graph.has(node, end) && set.has(*target, end));
-        trigger.states[state].admits(graph.samples[node]) && trigger.states[state].links.iter().all(carried)
+        admitted.has(state, node) && trigger.states[state].links.iter().all(carried)
     })
 }
 
@@ -33,7 +40,7 @@ fn union_of_simulations(trigger: &Trigger, graph: &Graph) -> u32 {
 
 /// The intersection of all sets of fresh pairs that hold both clauses of the trial set.
 fn least_trial_set(trigger: &Trigger, graph: &Graph, before: u32, (start, end): (usize, usize)) -> u32 {
-    let admitted = admitted(trigger, graph);
+    let admitted = admissions(trigger, graph);
     let fresh = bits(&admitted) & !before;
     let closed = |set: &u32| {
         let held = relation(*set);
@@ -68,14 +75,16 @@ fn has_chain(trigger: &Trigger, graph: &Graph, changed: &Relation, pair: (usize,
     false
 }
 
-/// The book of a load: two bits of links and of admission for each state and node, and a set of edges.
-fn book(links: u32, admission: u32, edges: u32) -> Book {
+/// The book of a load: two bits of links for each state, two bits of each sample, a set of edges and one of inverted
+/// states.
+fn book(links: u32, samples: u32, edges: u32, inverted: u32) -> Book {
     let held: Vec<u32> = (0..4).filter(|edge| edges >> edge & 1 == 1).collect();
     let given = Given {
         masks: &[1, 2],
         values: &[1, 2],
         links: &[links & 3, links >> 2],
-        samples: &[admission as u16 & 3, admission as u16 >> 2],
+        inverted,
+        samples: &[samples as u16 & 3, samples as u16 >> 2],
         starts: &held.iter().map(|edge| edge / 2).collect::<Vec<u32>>(),
         ends: &held.iter().map(|edge| edge % 2).collect::<Vec<u32>>(),
     };
@@ -84,9 +93,10 @@ fn book(links: u32, admission: u32, edges: u32) -> Book {
 
 #[test]
 fn standing_trials_and_chains() {
-    for case in 0..1u32 << 12 {
-        let (links, admission, edges) = (case & 15, case >> 4 & 15, case >> 8);
-        let before = book(links, admission, edges);
+    for case in 0..1u32 << 14 {
+        let (links, samples, edges, inverted) = (case & 15, case >> 4 & 15, case >> 8 & 15, case >> 12);
+        let before = book(links, samples, edges, inverted);
+        assert_eq!(admitted(&before.trigger, &before.graph), admissions(&before.trigger, &before.graph), "case {case}");
         let stood = bits(&before.standing);
         assert_eq!(stood, union_of_simulations(&before.trigger, &before.graph), "case {case}");
         for edge in 0..4u32 {

@@ -14,12 +14,20 @@
 //! assert!(answer.yes());
 //! assert_eq!(changes[..answer.changes()], [1, 65]);
 //!
+//! // State One is inverted: anything but 7.
+//! let load = Load { masks: &[0xFFFF], values: &[7], links: &[0], inverted: 1, samples: &[7, 8], ..Load::default() };
+//! let answer = lent::load(&mut session, &load, &mut changes);
+//! assert_eq!(changes[..answer.changes()], [65]);
+//!
+//! // There is no second state to invert.
+//! assert_eq!(lent::load(&mut session, &Load { inverted: 0b10, ..load }, &mut changes).rule(), 4);
 //! assert_eq!(lent::fires(&session[1..]).rule(), 3);
 //! ```
 
 use crate::{Rule, foreign};
 
-/// What a load is given, a slice for each field. Masks, values and links go together, starts and ends go together.
+/// What a load is given, a slice for each field, and the set of inverted states. Masks, values and links go together,
+/// starts and ends go together.
 #[derive(Clone, Copy, Debug, Default)]
 pub struct Load<'a> {
     /// The mask of each state.
@@ -28,6 +36,8 @@ pub struct Load<'a> {
     pub values: &'a [u16],
     /// The links of each state, bit 0 for State One.
     pub links: &'a [u32],
+    /// The inverted states, bit 0 for State One. A bit of a state that is not there is refused with rule 4.
+    pub inverted: u32,
     /// The sample of each node.
     pub samples: &'a [u16],
     /// The start of each edge.

@@ -9,8 +9,8 @@
 //!
 //! // Two states that link to each other, two nodes, no edges yet.
 //! let states = [
-//!     State { mask: 0xFFFF, value: 1, links: 0b10 },
-//!     State { mask: 0xFFFF, value: 2, links: 0b01 },
+//!     State { mask: 0xFFFF, value: 1, links: 0b10, inverted: false },
+//!     State { mask: 0xFFFF, value: 2, links: 0b01, inverted: false },
 //! ];
 //! let mut session = Session::new();
 //! let report = session.load(&states, &[1, 2], &[])?;

@@ -7,12 +7,14 @@ use crate::rule::Rule;
 /// A state of a trigger.
 #[derive(Clone, Copy, Debug, PartialEq, Eq)]
 pub struct State {
-    /// The bits of a sample that are compared. A mask of zero admits every node.
+    /// The bits of a sample that are compared. A mask of zero admits every node; inverted, it admits none.
     pub mask: u16,
     /// What they are compared with; bits outside the mask are ignored.
     pub value: u16,
     /// The states linked to, bit 0 for State One.
     pub links: u32,
+    /// Whether the state is inverted: it then admits exactly the nodes that it would not admit otherwise.
+    pub inverted: bool,
 }
 
 /// What an accepted load or edit reports.
@@ -60,7 +62,7 @@ impl Session {
     /// ```
     /// use trigger_engine::{Rule, Session, State};
     ///
-    /// let any = State { mask: 0, value: 0x00FF, links: 1 };
+    /// let any = State { mask: 0, value: 0x00FF, links: 1, inverted: false };
     /// let mut session = Session::new();
     /// let report = session.load(&[any], &[0x0000, 0xFFFF], &[(0, 1), (1, 0)])?;
     /// assert!(report.fires);
@@ -71,12 +73,27 @@ impl Session {
     /// assert!(session.fires()?);
     /// # Ok::<(), Rule>(())
     /// ```
+    ///
+    /// An inverted state hunts for anything but a word:
+    ///
+    /// ```
+    /// use trigger_engine::{Change, Rule, Session, State};
+    ///
+    /// let busy = State { mask: 0xFFFF, value: 0x0000, links: 0, inverted: true };
+    /// let mut session = Session::new();
+    /// let report = session.load(&[busy], &[0x0000, 0x00A5], &[])?;
+    /// let changes: Vec<Change> = report.changes().collect();
+    /// assert_eq!(changes, [Change { state: 1, node: 1, begins: true }]);
+    /// # Ok::<(), Rule>(())
+    /// ```
     pub fn load(&mut self, states: &[State], samples: &[u16], edges: &[(u32, u32)]) -> Result<Report<'_>, Rule> {
         let masks: Vec<u16> = states.iter().map(|state| state.mask).collect();
         let values: Vec<u16> = states.iter().map(|state| state.value).collect();
         let links: Vec<u32> = states.iter().map(|state| state.links).collect();
+        let inverted = inverted_set(states);
         let (starts, ends): (Vec<u32>, Vec<u32>) = edges.iter().copied().unzip();
-        let load = Load { masks: &masks, values: &values, links: &links, samples, starts: &starts, ends: &ends };
+        let load =
+            Load { masks: &masks, values: &values, links: &links, inverted, samples, starts: &starts, ends: &ends };
         let answer = lent::load(&mut self.words, &load, &mut self.room);
         self.report(answer)
     }
@@ -86,7 +103,7 @@ impl Session {
     /// ```
     /// use trigger_engine::{Change, Rule, Session, State};
     ///
-    /// let state = State { mask: 0xFFFF, value: 5, links: 1 };
+    /// let state = State { mask: 0xFFFF, value: 5, links: 1, inverted: false };
     /// let mut session = Session::new();
     /// session.load(&[state], &[5], &[])?;
     /// let report = session.insert(0, 0)?;
@@ -105,7 +122,7 @@ impl Session {
     /// ```
     /// use trigger_engine::{Rule, Session, State};
     ///
-    /// let state = State { mask: 0xFFFF, value: 5, links: 1 };
+    /// let state = State { mask: 0xFFFF, value: 5, links: 1, inverted: false };
     /// let mut session = Session::new();
     /// session.load(&[state], &[5, 5], &[(0, 1), (1, 0)])?;
     /// let report = session.delete(0, 1)?;
@@ -135,7 +152,7 @@ impl Session {
     /// ```
     /// use trigger_engine::{Rule, Session, State};
     ///
-    /// let state = |links| State { mask: 0, value: 0, links };
+    /// let state = |links| State { mask: 0, value: 0, links, inverted: false };
     /// let mut session = Session::new();
     /// session.load(&[state(0b100), state(0), state(0b001)], &[], &[])?;
     /// assert_eq!(session.order()?, [1, 3, 2]);
@@ -157,6 +174,12 @@ impl Session {
         let answer = answer.accepted()?;
         Ok(Report { fires: answer.yes(), trials: answer.trials(), changes: &self.room[..answer.changes()] })
     }
+}
+
+/// The inverted states as a set. States past those that the set has bits for are too many, and the load is refused.
+fn inverted_set(states: &[State]) -> u32 {
+    let bits = (0..u32::BITS).zip(states);
+    bits.filter(|(_, state)| state.inverted).fold(0, |set, (bit, _)| set | 1 << bit)
 }
 
 impl Default for Session {

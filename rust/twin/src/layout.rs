@@ -1,12 +1,14 @@
 //! Places of the session's sections, and the layout test.
 
 use crate::states::States;
+use std::hint::black_box;
 
 pub const STATES: usize = 16;
 pub const NODES: usize = 512;
 pub const EDGES: usize = 2048;
 pub const ROOM: usize = 8192;
-pub const MASKS_AT: usize = 3;
+pub const INVERTED_AT: usize = 3;
+pub const MASKS_AT: usize = INVERTED_AT + 1;
 pub const VALUES_AT: usize = MASKS_AT + STATES;
 pub const LINKS_AT: usize = VALUES_AT + STATES;
 pub const SAMPLES_AT: usize = LINKS_AT + STATES;
@@ -47,7 +49,7 @@ pub fn shape(session: &[u32]) -> Option<Shape> {
     let unused = unused.iter().fold(0, |all, words| all | union(words));
     let states = States::read(fixed, count);
     let marked = union(marks);
-    let sets = (union(links) | marked) & !states.all();
+    let sets = (union(links) | marked | states.inverted) & !states.all();
     let fault = words >> 16 | unused | sets | edge_fault(numbers, nodes);
     if fault != 0 || mark_fault(&states, samples, marks, marked) {
         return None;
@@ -83,7 +85,8 @@ fn mark_fault(states: &States, samples: &[u32], marks: &[u32], marked: u32) -> b
     }
     let nodes = samples.len().next_multiple_of(16);
     let (samples, marks) = (short(samples), short(marks));
-    let mut fault = 0;
+    // For each node the states with a mark anywhere whose plain form admits it.
+    let mut agreeing = [0; NODES];
     let mut left = marked;
     while left != 0 {
         // Four states at a time; where fewer are left, State One is tested again.
@@ -93,18 +96,16 @@ fn mark_fault(states: &States, samples: &[u32], marks: &[u32], marked: u32) -> b
             state
         });
         let masks = group.map(|state| states.masks[state]);
-        let wanted = group.map(|state| states.values[state] & states.masks[state]);
-        let [mut one, mut two, mut three, mut four] = [0; 4];
-        for (sample, word) in samples[..nodes].iter().zip(&marks[..nodes]) {
-            let wrong = |place: usize| if sample & masks[place] == wanted[place] { 0 } else { *word };
-            one |= wrong(0);
-            two |= wrong(1);
-            three |= wrong(2);
-            four |= wrong(3);
-        }
-        for (state, wrong) in group.into_iter().zip([one, two, three, four]) {
-            fault |= wrong & 1 << state;
+        // A compiler that sees the mask in it compares with one operation more.
+        let wanted = black_box(group.map(|state| states.values[state] & states.masks[state]));
+        let bits = group.map(|state| 1 << state);
+        for (sample, word) in samples[..nodes].iter().zip(&mut agreeing[..nodes]) {
+            let bit = |place: usize| if sample & masks[place] == wanted[place] { bits[place] } else { 0 };
+            *word |= bit(0) | bit(1) | bit(2) | bit(3);
         }
     }
-    fault != 0
+    // Inverted states admit where they do not agree: one operation for all states of a node.
+    let inverted = states.inverted as u16;
+    let words = marks[..nodes].iter().zip(&agreeing[..nodes]);
+    words.fold(0, |fault, (word, agreeing)| fault | word & !(agreeing ^ inverted)) != 0
 }

@@ -2,13 +2,14 @@
 
 use crate::incoming::Edges;
 use crate::layout::{
-    EDGES, EDGES_AT, LINKS_AT, MARKS_AT, MASKS_AT, NODES, ROOM, SAMPLES_AT, SESSION, STATES, VALUES_AT, union,
+    EDGES, EDGES_AT, INVERTED_AT, LINKS_AT, MARKS_AT, MASKS_AT, NODES, ROOM, SAMPLES_AT, SESSION, STATES, VALUES_AT,
+    union,
 };
 use crate::refine::{Waiting, refine};
 use crate::report::{Changes, accepted};
 use crate::states::States;
 
-/// What a load is given, a slice for each field.
+/// What a load is given, a slice for each field, and the set of inverted states.
 #[derive(Clone, Copy, Debug, Default)]
 pub struct Load<'a> {
     /// The mask of each state.
@@ -17,6 +18,8 @@ pub struct Load<'a> {
     pub values: &'a [u16],
     /// The links of each state, bit 0 for State One.
     pub links: &'a [u32],
+    /// The inverted states, bit 0 for State One.
+    pub inverted: u32,
     /// The sample of each node.
     pub samples: &'a [u16],
     /// The start of each edge.
@@ -32,6 +35,9 @@ fn rule(load: &Load, session: usize, room: usize) -> u64 {
         return 3;
     }
     if states == 0 || states > STATES || load.values.len() != states || load.links.len() != states {
+        return 4;
+    }
+    if load.inverted >> states != 0 {
         return 4;
     }
     if union(load.links) >> states != 0 {
@@ -72,7 +78,8 @@ pub fn load(session: &mut [u32], load: &Load, changes: &mut [i32]) -> u64 {
     }
     let fixed: &mut [u32; SESSION] = session.first_chunk_mut().expect("rule 3 holds");
     let (count, nodes, edges) = (load.masks.len(), load.samples.len(), load.starts.len());
-    fixed[..3].copy_from_slice(&[count as u32, nodes as u32, edges as u32]);
+    fixed[..INVERTED_AT].copy_from_slice(&[count as u32, nodes as u32, edges as u32]);
+    fixed[INVERTED_AT] = load.inverted;
     let numbers = load.starts.iter().zip(load.ends).map(|(start, end)| start * 512 + end);
     fill(&mut fixed[MASKS_AT..VALUES_AT], load.masks.iter().map(|word| (*word).into()));
     fill(&mut fixed[VALUES_AT..LINKS_AT], load.values.iter().map(|word| (*word).into()));

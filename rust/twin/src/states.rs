@@ -1,13 +1,14 @@
 //! The states of a trigger, ready for sets of states in a word.
 
-use crate::layout::{LINKS_AT, MASKS_AT, SESSION, STATES, VALUES_AT};
+use crate::layout::{INVERTED_AT, LINKS_AT, MASKS_AT, SESSION, STATES, VALUES_AT};
 
-/// Masks, values and links; those of places past the count are zero.
+/// Masks, values and links, those of places past the count zero, and the set of inverted states.
 pub struct States {
     pub count: usize,
     pub masks: [u16; STATES],
     pub values: [u16; STATES],
     pub links: [u32; STATES],
+    pub inverted: u32,
 }
 
 impl States {
@@ -19,6 +20,7 @@ impl States {
             masks: words(MASKS_AT),
             values: words(VALUES_AT),
             links: std::array::from_fn(|state| fixed[LINKS_AT + state]),
+            inverted: fixed[INVERTED_AT],
         }
     }
 
@@ -35,8 +37,8 @@ impl States {
             if agrees { 1 << state } else { 0 }
         };
         let bits: [u16; STATES] = std::array::from_fn(bit);
-        let admitting = bits.iter().fold(0, |all, bit| all | bit);
-        u32::from(admitting) & self.all()
+        let agreeing = bits.iter().fold(0, |all, bit| all | bit);
+        (u32::from(agreeing) ^ self.inverted) & self.all()
     }
 
     /// For each state the set of states with a link to it.
