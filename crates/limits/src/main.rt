@@ -70,7 +70,7 @@ fn show(label: &[u8], answer: Answer) {
     }
 }
 
-// How many of each list are given, and how much is lent.
+// How many of each list are given, which states are inverted, and how much is lent.
 struct Sizes {
     masks: usize,
     values: usize,
@@ -166,8 +166,8 @@ fn plain(label: &[u8], states: usize, nodes: usize) {
     attempt(label, sizes, &links, &starts, &ends);
 }
 
-// Three states, the first with this link set.
-fn linked(label: &[u8], set: u32) {
+// Three states, the first with these links, and this set of them inverted.
+fn three(label: &[u8], set: u32, inverted: u32) {
     let mut links = no_links();
     let starts = edge_ends();
     let ends = edge_ends();
@@ -176,20 +176,7 @@ fn linked(label: &[u8], set: u32) {
     sizes.masks = 3;
     sizes.values = 3;
     sizes.links = 3;
-    attempt(label, sizes, &links, &starts, &ends);
-}
-
-// Three states that admit every node but where they are inverted: this set, and the links of the first.
-fn inverted(label: &[u8], set: u32, link: u32) {
-    let mut links = no_links();
-    let starts = edge_ends();
-    let ends = edge_ends();
-    let mut sizes = least();
-    links[0] = link;
-    sizes.masks = 3;
-    sizes.values = 3;
-    sizes.links = 3;
-    sizes.inverted = set;
+    sizes.inverted = inverted;
     attempt(label, sizes, &links, &starts, &ends);
 }
 
@@ -260,13 +247,13 @@ fn main() {
     plain(b"513 nodes", 1, 513);
     plain(b"16 states, 512 nodes", 16, 512);
     plain(b"17 states, 513 nodes", 17, 513);
-    linked(b"3 states, a link to state 3", 4);
-    linked(b"3 states, a link to state 4", 8);
-    linked(b"3 states, a link to state 32", 2147483648);
-    inverted(b"3 states, state 3 inverted", 4, 0);
-    inverted(b"3 states, state 4 inverted", 8, 0);
-    inverted(b"3 states, state 32 inverted", 2147483648, 0);
-    inverted(b"3 states, state 4 inverted and linked to", 8, 8);
+    three(b"3 states, a link to state 3", 4, 0);
+    three(b"3 states, a link to state 4", 8, 0);
+    three(b"3 states, a link to state 32", 2147483648, 0);
+    three(b"3 states, state 3 inverted", 0, 4);
+    three(b"3 states, state 4 inverted", 0, 8);
+    three(b"3 states, state 32 inverted", 0, 2147483648);
+    three(b"3 states, state 4 inverted and linked to", 8, 8);
     joined(b"edges (0, 511) and (511, 0)", 0, 511, 511, 0);
     joined(b"edges (0, 512) and (511, 0)", 0, 512, 511, 0);
     joined(b"edges (0, 0) and (512, 0)", 0, 0, 512, 0);

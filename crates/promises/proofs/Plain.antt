@@ -1,8 +1,8 @@
--- 02, Job 1, the other way round: a trigger without an inverted state has the marks, layout, trial sets and counts that it had, when a state admitted where
--- value and sample agree. Each follows from the one equation of admission.
+-- 02, Job 1, the other way round: a trigger without an inverted state has the marks, layout and answers that it had, when a state admitted where value and
+-- sample agree. Each follows from the one equation of admission.
 use Prim.Native.Nat.{ℕ, _^_}
 use mathlib.Core.Path.{_≡_, refl, ap, _∙_}
-use mathlib.Core.Bool.{true, not, _&&_, _||_, and-true}
+use mathlib.Core.Bool.{true, false, not, _&&_, _||_, and-true}
 use lib.Dec.{ltb, leb, eqb}
 use lib.ListN.{length}
 use lib.Pow.{pow-pos}
@@ -14,8 +14,11 @@ use Rattle.session.specs.Limits.{maxStates, wordBits}
 use Rattle.session.specs.Trigger.{Trigger, Graph, Marks, states, nodes, linked, edge, admits, pattern}
 use Rattle.session.specs.Layout.{below, validTrigger, validMarks}
 use Rattle.session.proofs.Admission.{agreement, admits-agreement}
-use Rattle.promises.specs.Standing.{stands, size, trialSet}
-use Rattle.promises.specs.Promises.{loadTrials}
+use Rattle.listing.specs.Changes.{changes}
+use Rattle.promises.specs.Standing.{stands, fires, size, trialSet}
+use Rattle.promises.specs.Rules.{Given, givenTrigger, givenGraph, Kind, insertion, deletion, edited}
+use Rattle.promises.specs.Promises.{loadTrials, ceased}
+use Rattle.promises.specs.Model.{loadSummary, editSummary}
 
 module _ (t : Trigger) (none : t .inverted ≡ 0) where
   -- its counts and numbers keep the limits that they had
@@ -55,3 +58,36 @@ module _ (t : Trigger) (none : t .inverted ≡ 0) where
         closure (system p) (paired p (λ u v. x u v && not (m u v)))
         (paired p (λ u v. eqb v a && anyBelow (states t) (λ u'. linked t u u' && x u' b))))
         admission
+
+  -- what a load and an edit tell, by the former marks
+  abbrev once : Graph → Marks
+  once g = best (plain (states t) (nodes g) (linked t) (agreement t g) (edge g))
+
+  abbrev tried : Kind → Graph → Graph → ℕ → ℕ → ℕ
+  tried insertion g g' a b =
+      let p = plain (states t) (nodes g') (linked t) (agreement t g') (edge g') in
+      size t g'
+      (closure (system p) (paired p (λ u v. agreement t g' u v && not (once g u v)))
+      (paired p (λ u v. eqb v a && anyBelow (states t) (λ u'. linked t u u' && agreement t g' u' b))))
+  tried deletion g g' a b = ceased t g' (once g) (once g')
+
+  pub plain-edit : (g : Graph) (k : Kind) (a b : ℕ) → editSummary (record { trigger = t; graph = g }) k a b
+      ≡ record {
+        fires = fires t (edited k g a b) (once (edited k g a b));
+        trials = tried k g (edited k g a b) a b;
+        changes = length (changes t (edited k g a b) (once g) (once (edited k g a b)));
+      }
+  plain-edit g insertion a b =
+      let g' = edited insertion g a b in
+      rw (plain-stands g', plain-stands g, plain-trials g' (once g) a b)
+  plain-edit g deletion a b = rw (plain-stands (edited deletion g a b), plain-stands g)
+
+pub plain-load : (x : Given) → x .inverted ≡ 0 → loadSummary x
+    ≡ (let t = givenTrigger x in
+    let g = givenGraph x in
+    let p = plain (states t) (nodes g) (linked t) (agreement t g) (edge g) in
+    record { fires = fires t g (best p); trials = size t g (paired p (agreement t g)); changes = length (changes t g (λ u v. false) (best p)) })
+plain-load x none =
+    let t = givenTrigger x in
+    let g = givenGraph x in
+    rw (plain-stands t none g, plain-count t none g)

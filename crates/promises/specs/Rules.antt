@@ -45,7 +45,8 @@ givenGraph x = record { samples = x .samples; edges = numbered (x .starts) (x .e
 abbrev pub precedes : ℕ → ℕ → ℕ → ℕ → Bool
 precedes a b c d = ltb a c || (eqb a c && ltb b d)
 
--- rules 3 to 9, of a load into `memory` words and `room` places; of an inverted state that is not among the states only a part is given
+-- rules 3 to 9, of a load into `memory` words and `room` places; an inverted state that is not among the states
+-- is one given in part
 abbrev pub loadRules : ℕ → ℕ → Given → List Rule
 loadRules memory room x =
     let n = length (x .masks) in

@@ -6,7 +6,6 @@ use mathlib.Core.Bool.{Bool, true, false, not, _||_, cond, Bool·beq}
 use lib.Bits.{bitAnd, bitXor}
 use lib.Dec.{eqb}
 use lib.ListN.{getD}
-use lib.Pow.{pow-pos}
 use Rattle.simulation.proofs.Sets.{split, or-l, not-make, all-make}
 use Rattle.simulation.proofs.Edges.{all-same}
 use Rattle.bits.specs.Word.{bit, members}
@@ -14,8 +13,6 @@ use Rattle.bits.proofs.Words.{zero-members, and-again}
 use Rattle.bits.proofs.Tests.{masked, masked-equal}
 use Rattle.session.specs.Limits.{wordBits}
 use Rattle.session.specs.Trigger.{Trigger, Graph, Marks, agrees, accepts, admits}
-use Rattle.session.proofs.Tables.{below-at}
-use Rattle.session.proofs.Valid.{TriggerFacts}
 
 -- (value ^ sample) & mask is zero
 pub agrees-masked : (k mask value sample : ℕ) → mask < 2 ^ k → eqb (bitAnd (bitXor value sample) mask) 0 ≡ agrees k mask value sample

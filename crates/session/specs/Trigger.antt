@@ -55,7 +55,7 @@ withoutEdge g a b = record { samples = g .samples; edges = remove (edgeNumber a 
 unfoldable pub agrees : ℕ → ℕ → ℕ → ℕ → Bool
 agrees k mask value sample = allBelow k (λ i. not (members mask i) || eqb (bit value i) (bit sample i))
 
--- "it then admits exactly the nodes that its plain form does not": the plain agreement, turned round where the state is inverted
+-- 02, Job 1, an inverted state "then admits exactly the nodes that its plain form does not": the plain agreement, turned round where it is inverted
 unfoldable pub accepts : ℕ → Bool → ℕ → ℕ → ℕ → Bool
 accepts k inverted mask value sample = cond inverted (not (agrees k mask value sample)) (agrees k mask value sample)
 
