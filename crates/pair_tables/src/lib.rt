@@ -38,7 +38,8 @@ pub fn put_turned(
     count
 }
 
-// Puts a state into the words of the nodes that it admits; how many they are. The turn is known at each call, so that neither loop spends an operation on it.
+// Puts a state into the words of the nodes that it admits; how many they are. The turn is known at each call, so that a plain state's loop spends nothing on
+// it, and an inverted one's no more than the count.
 pub fn admit(
     samples: &[u32],
     inverted: bool,
