@@ -4,7 +4,7 @@ use native.Mathlib.Omega.{arith}
 use mathlib.Core.Path.{_≡_, refl, sym, _∙_, ap}
 use mathlib.Core.Bool.{true}
 use mathlib.Core.List.{List}
-use lib.ListN.{length, getD, replicate, getD-replicate}
+use lib.ListN.{getD, replicate, getD-replicate}
 use borrow.Author.Tests.{lt-ltb}
 use Rattle.simulation.specs.Sets.{Set, none}
 use Rattle.simulation.specs.System.{System, greatest, refined}

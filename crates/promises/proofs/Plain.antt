@@ -1,9 +1,9 @@
 -- 02, Job 1, the other way round: a trigger without an inverted state has the marks, layout and answers that it had, when a state admitted where value and
 -- sample agree. Each follows from the one equation of admission.
 use Prim.Native.Nat.{ℕ, _^_}
-use mathlib.Core.Path.{_≡_, refl, ap, _∙_}
-use mathlib.Core.Bool.{true, false, not, _&&_, _||_, and-true}
-use lib.Dec.{ltb, leb, eqb}
+use mathlib.Core.Path.{_≡_, ap}
+use mathlib.Core.Bool.{false, not, _&&_, _||_, and-true}
+use lib.Dec.{leb, eqb}
 use lib.ListN.{length}
 use lib.Pow.{pow-pos}
 use borrow.Author.Tests.{lt-ltb}
@@ -11,7 +11,7 @@ use Rattle.simulation.specs.Sets.{allBelow, anyBelow}
 use Rattle.simulation.specs.System.{closure}
 use Rattle.simulation.specs.Pattern.{Pattern, plain, paired, system, best}
 use Rattle.session.specs.Limits.{maxStates, wordBits}
-use Rattle.session.specs.Trigger.{Trigger, Graph, Marks, states, nodes, linked, edge, admits, pattern}
+use Rattle.session.specs.Trigger.{Trigger, Graph, Marks, states, nodes, linked, edge, admits}
 use Rattle.session.specs.Layout.{below, validTrigger, validMarks}
 use Rattle.session.proofs.Admission.{agreement, admits-agreement}
 use Rattle.listing.specs.Changes.{changes}

@@ -8,7 +8,7 @@ use mathlib.Core.List.{List}
 use lib.ListN.{length}
 use lib.Seq.{length-take-le}
 use borrow.Author.Tests.{leb-true, leb-false}
-use Rattle.frames.specs.Machine.{Memory, memory}
+use Rattle.frames.specs.Machine.{Memory, memory, outputSize}
 use Rattle.frames.specs.Blocks.{Point, point, GoesOn}
 use Rattle.frames.proofs.Fronts.{keeps-inside}
 use Rattle.frames.proofs.Passing.{SameLengths, Upto, pass-start, pass-open, part, part-passed, part-fits, part-long, pass-line, pass-stops, gathered-at}
@@ -44,7 +44,7 @@ upto h = h .loop .inv .0
 on : (a : tie.After-gather Inv-loop μ-loop) → GoesOn (block (a .before .before .before .before)) (here (a .before .before .before .before))
 on a =
     let l = a .before .before .before .before .loop in
-    let room : 90125 ≤ length (l .out) - l .written = leb-true 90125 (length (l .out) - l .written) (a .before .before .if1 .taken) in
+    let room : outputSize ≤ length (l .out) - l .written = leb-true outputSize (length (l .out) - l .written) (a .before .before .if1 .taken) in
     (a .before .before .before .loop-test .taken, omega (arith, room, upto (a .before .before .before .before) .inside))
 
 falls : (a : tie.After-gather Inv-loop μ-loop) → length (block (a .before .before .before .before)) - a .gather .result .at < length (block (a .before .before .before .before)) - a .before .before .before .before .loop .at
@@ -159,7 +159,7 @@ returns : tie.Need-returns Inv-loop μ-loop
 returns c =
     let h = c .before .before in
     let l = h .loop in
-    let full : length (l .out) - l .written < 90125 = leb-false 90125 (length (l .out) - l .written) (c .if1 .left) in
+    let full : length (l .out) - l .written < outputSize = leb-false outputSize (length (l .out) - l .written) (c .if1 .left) in
     (refl, pass-stops (block h) (begin h) (here h) (upto h) (inr (omega (arith, full, upto h .inside))))
 
 same-length-7 : tie.Need-same-length-7 Inv-loop μ-loop
