@@ -14,7 +14,7 @@ use Rattle.simulation.proofs.Ordered.{Rising, elem-at, elem-index, rising-take}
 use Rattle.simulation.proofs.Pattern.{state-inside, node-inside}
 use Rattle.simulation.proofs.Loops.{count-none}
 use Rattle.session.specs.Limits.{maxNodes, maxEdges, maxChanges, fixedSize}
-use Rattle.session.specs.Trigger.{Trigger, Graph, states, nodes, edge, edgeNumber, agrees, accepts, admits, pattern}
+use Rattle.session.specs.Trigger.{Trigger, Graph, states, nodes, edge, edgeNumber, agrees, matches, accepts, admits, pattern}
 use Rattle.session.specs.Layout.{table, below, validTrigger}
 use Rattle.session.proofs.Tables.{length-table, getD-table, below-make}
 use Rattle.session.proofs.Valid.{TriggerFacts, GraphFacts, trigger-facts}
@@ -148,7 +148,7 @@ begun-full = rw (given-full, fresh-graph model trigger-full graph-full)
 
 nothing-admitted : (u v : ℕ) → u < states (givenTrigger (full .given)) → v < nodes (givenGraph (full .given))
     → admits (givenTrigger (full .given)) (givenGraph (full .given)) u v ≡ false
-unfolding full admits accepts agrees allBelow
+unfolding full admits accepts matches agrees allBelow
 nothing-admitted (suc u) v l k = absurd (omega arith)
 nothing-admitted zero v l k = rw (dense-sample maxEdges v k)
 

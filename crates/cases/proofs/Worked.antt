@@ -4,7 +4,7 @@ use Rattle.simulation.specs.Sets.{anyBelow, allBelow, count, shrunk, down, grow
 use Rattle.simulation.specs.System.{greatest, supported, closure, reaches}
 use Rattle.simulation.specs.Pattern.{best}
 use Rattle.simulation.specs.Ordered.{elem, insert, remove, joins}
-use Rattle.session.specs.Trigger.{linked, edge, agrees, accepts, admits}
+use Rattle.session.specs.Trigger.{linked, edge, agrees, matches, accepts, admits}
 use Rattle.session.specs.Layout.{table, below}
 use Rattle.listing.specs.Changes.{joinTo, changes}
 use Rattle.listing.specs.Order as walk

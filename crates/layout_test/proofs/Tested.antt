@@ -264,7 +264,8 @@ module _ (xs : List ℕ) where
 
       abbrev row : ℕ → Bool
       row u =
-          sparse (part xs samplesAt m) marks (members (getD xs invertedAt 0) u) (getD (part xs masksAt n) u 0) (getD (part xs valuesAt n) u 0) u
+          sparse (part xs samplesAt m) marks
+          (accepts wordBits (members (getD xs invertedAt 0) u) (getD (part xs masksAt n) u 0) (getD (part xs valuesAt n) u 0)) u
 
       row-take : (u v : ℕ) → row u ≡ true → v < m → members (getD xs (marksAt + v) 0) u ≡ true → fit n m u v ≡ true
       unfolding sparse

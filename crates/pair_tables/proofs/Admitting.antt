@@ -19,15 +19,15 @@ use Rattle.simulation.proofs.Loops.{count-same, total, count-rows}
 use Rattle.bits.specs.Word.{members}
 use Rattle.bits.proofs.Words.{zero-members, also-members}
 use Rattle.session.specs.Limits.{wordBits, maxNodes}
-use Rattle.session.specs.Trigger.{accepts}
+use Rattle.session.specs.Trigger.{matches}
 use Rattle.pair_tables.specs.Tables.{marked, Admits, Admitted}
 use Rattle.simulation.proofs.Gains.{more-here, more-other, row-more}
 
 -- ---- a state: the nodes below k are seen
 
-module _ (samples : List ℕ) (inverted : Bool) (mask value u : ℕ) (ts : List ℕ) where
+module _ (samples : List ℕ) (turned : Bool) (mask value u : ℕ) (ts : List ℕ) where
   abbrev accepted : Set
-  accepted v = accepts wordBits inverted mask value (getD samples v 0)
+  accepted v = matches wordBits turned mask value (getD samples v 0)
 
   pub record Seen (k n : ℕ) (ts' : List ℕ) : Type 0 where
     pub long : length ts' ≡ length ts
@@ -42,7 +42,7 @@ module _ (samples : List ℕ) (inverted : Bool) (mask value u : ℕ) (ts : List 
     counted = refl;
   }
 
-  pub seen-end : {n : ℕ} {ts' : List ℕ} → Seen (length samples) n ts' → Admits samples inverted mask value u ts n ts'
+  pub seen-end : {n : ℕ} {ts' : List ℕ} → Seen (length samples) n ts' → Admits samples turned mask value u ts n ts'
   seen-end s = record { long = s .long; words = s .words; counted = s .counted }
 
   module _ {k n : ℕ} {ts' : List ℕ} (s : Seen k n ts') where
@@ -125,9 +125,9 @@ total-swap (suc m) n A =
 
 -- ---- all states: those below k are put in
 
-module _ (masks values : List ℕ) (inverted : ℕ) (samples : List ℕ) where
+module _ (masks values : List ℕ) (turned : ℕ) (samples : List ℕ) where
   abbrev admits-at : ℕ → ℕ → Bool
-  admits-at u v = accepts wordBits (members inverted u) (getD masks u 0) (getD values u 0) (getD samples v 0)
+  admits-at u v = matches wordBits (members turned u) (getD masks u 0) (getD values u 0) (getD samples v 0)
 
   abbrev rows : ℕ → ℕ
   rows u = count (length samples) (λ v. admits-at u v)
@@ -137,7 +137,7 @@ module _ (masks values : List ℕ) (inverted : ℕ) (samples : List ℕ) where
     pub words : (u v : ℕ) → marked ts u v ≡ (ltb u k && (ltb v (length samples) && admits-at u v))
     pub counted : n ≡ total k rows
 
-  pub admits-few : {k n : ℕ} {ts ts' : List ℕ} → Admits samples (members inverted k) (getD masks k 0) (getD values k 0) k ts n ts' → n ≤ length samples
+  pub admits-few : {k n : ℕ} {ts ts' : List ℕ} → Admits samples (members turned k) (getD masks k 0) (getD values k 0) k ts n ts' → n ≤ length samples
   admits-few {k} a = omega (arith, a .counted, count-le (length samples) (λ v. admits-at k v))
 
   pub filled-start : {ts : List ℕ} → length ts ≡ maxNodes → ((v : ℕ) → getD ts v 0 ≡ 0) → Filled 0 0 ts
@@ -148,7 +148,7 @@ module _ (masks values : List ℕ) (inverted : ℕ) (samples : List ℕ) where
     counted = refl;
   }
 
-  pub filled-more : {k n n' : ℕ} {ts ts' : List ℕ} → Filled k n ts → Admits samples (members inverted k) (getD masks k 0) (getD values k 0) k ts n' ts'
+  pub filled-more : {k n n' : ℕ} {ts ts' : List ℕ} → Filled k n ts → Admits samples (members turned k) (getD masks k 0) (getD values k 0) k ts n' ts'
       → Filled (k + 1) (n + n') ts'
   unfolding total
   filled-more {k} {n} {n'} {ts} {ts'} s a = record {
@@ -158,7 +158,7 @@ module _ (masks values : List ℕ) (inverted : ℕ) (samples : List ℕ) where
     counted = rw (add-one k) (omega (arith, s .counted, a .counted));
   }
 
-  pub filled-end : {n : ℕ} {ts : List ℕ} → Filled (length masks) n ts → Admitted masks values inverted samples n ts
+  pub filled-end : {n : ℕ} {ts : List ℕ} → Filled (length masks) n ts → Admitted masks values turned samples n ts
   filled-end s = record {
     long = s .long;
     words = s .words;

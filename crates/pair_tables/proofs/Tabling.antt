@@ -4,7 +4,7 @@ use native.Mathlib.Numerals.{add-one}
 use native.Mathlib.Omega.{arith}
 use mathlib.Core.Path.{_≡_, refl, sym, ap, ap₂, _∙_, fun-ext}
 use mathlib.Core.Logic.{⊎-elim}
-use mathlib.Core.Bool.{Bool, true, false, not, _&&_, cond, Bool·beq}
+use mathlib.Core.Bool.{Bool, true, false, not, _&&_, cond, and-false, Bool·beq}
 use mathlib.Core.List.{List}
 use lib.Arith.{digits-mod, digits-div}
 use lib.Bits.{bitAnd, bitXor}
@@ -15,12 +15,13 @@ use borrow.Author.Tests.{ltb-false, lt-ltb, le-ltb, eqb-true, eqb-false, eq-eqb,
 use Rattle.simulation.specs.Sets.{Set, count}
 use Rattle.simulation.proofs.Sets.{clash, refuted, split, count-le}
 use Rattle.simulation.proofs.Loops.{count-same, count-beyond, total, count-rows}
+use Rattle.simulation.proofs.Search.{lt-or-le}
 use Rattle.bits.specs.Word.{members}
-use Rattle.bits.proofs.Words.{zero-members, members-below}
+use Rattle.bits.proofs.Words.{zero-members, and-members}
 use Rattle.session.specs.Limits.{wordBits}
-use Rattle.session.specs.Trigger.{agrees, accepts}
-use Rattle.session.proofs.Admission.{agrees-masked, accepts-differs}
-use Rattle.pair_tables.specs.Tables.{marked}
+use Rattle.session.specs.Trigger.{agrees, matches, accepts}
+use Rattle.session.proofs.Admission.{agrees-masked, matches-differs, accepts-turned}
+use Rattle.pair_tables.specs.Tables.{marked, turnedStates}
 use Rattle.simulation.proofs.Gains.{more-here, more-other}
 
 -- words of zero mark nothing
@@ -45,20 +46,62 @@ module _ (masks values : List ℕ) (sample : ℕ) where
     pub agreeing-no : (bitAnd (bitXor (getD values u 0) sample) (getD masks u 0) ≡ 0 → ⊥) → agreeing u ≡ false
     agreeing-no e = sym (agrees-masked wordBits (getD masks u 0) (getD values u 0) sample small) ∙ ne-eqb tested 0 e
 
-  -- those of the first n that agree, turned round where they are inverted
-  pub agreeing-turned : (n inverted : ℕ) (all turned : Set) → inverted < 2 ^ n → all ≡ (λ u. ltb u n && agreeing u)
-      → turned ≡ (λ u. not (Bool·beq (all u) (members inverted u)))
-      → turned ≡ (λ u. ltb u n && accepts wordBits (members inverted u) (getD masks u 0) (getD values u 0) sample)
-  agreeing-turned n inverted all turned few e d =
+  -- those of the first n that agree, turned round at some of these
+  pub agreeing-turned : (n turned : ℕ) (all answer : Set) → ((u : ℕ) → members turned u ≡ true → u < n) → all ≡ (λ u. ltb u n && agreeing u)
+      → answer ≡ (λ u. not (Bool·beq (all u) (members turned u)))
+      → answer ≡ (λ u. ltb u n && matches wordBits (members turned u) (getD masks u 0) (getD values u 0) sample)
+  agreeing-turned n turned all answer few e d =
       fun-ext
       (λ u.
       ap (λ (X : Set). X u) d
-      ∙ ap (λ (X : Set). not (Bool·beq (X u) (members inverted u))) e
+      ∙ ap (λ (X : Set). not (Bool·beq (X u) (members turned u))) e
       ∙ ⊎-elim
-      (λ (l : ltb u n ≡ true). rw l (accepts-differs wordBits (members inverted u) (getD masks u 0) (getD values u 0) sample))
+      (λ (l : ltb u n ≡ true). rw l (matches-differs wordBits (members turned u) (getD masks u 0) (getD values u 0) sample))
       (λ (l : ltb u n ≡ false).
-      rw (l, refuted (members inverted u) (λ m. clash (lt-ltb u n (members-below n inverted few u m)) l)))
+      rw (l, refuted (members turned u) (λ m. clash (lt-ltb u n (few u m)) l)))
       (split (ltb u n)))
+
+-- ---- which states are turned round
+
+module _ (masks : List ℕ) where
+  abbrev pub wanting : Set
+  wanting u = not (eqb (getD masks u 0) 0)
+
+  -- those of the states that want something and are inverted; past the last there is no mask
+  pub turned-are : (n inverted w : ℕ) → n ≡ length masks → members w ≡ (λ u. ltb u n && wanting u)
+      → members (bitAnd inverted w) ≡ turnedStates masks inverted
+  turned-are n inverted w l e =
+      fun-ext
+      (λ u.
+      and-members inverted w u
+      ∙ ap (λ (X : Set). members inverted u && X u) e
+      ∙ ⊎-elim
+      (λ (h : ltb u n ≡ true). rw h)
+      (λ (h : ltb u n ≡ false).
+      let beyond : length masks ≤ u = omega (arith, ltb-false u n h) in
+      rw (h, List·getD-eq-default masks 0 beyond))
+      (split (ltb u n)))
+
+  -- with them the states admit what they do
+  pub turned-admits : (inverted turned : ℕ) → members turned ≡ turnedStates masks inverted → (u value sample : ℕ)
+      → matches wordBits (members turned u) (getD masks u 0) value sample ≡ accepts wordBits (members inverted u) (getD masks u 0) value sample
+  turned-admits inverted turned e u value sample =
+      ap (λ (X : Set). matches wordBits (X u) (getD masks u 0) value sample) e
+      ∙ sym (accepts-turned wordBits (members inverted u) (getD masks u 0) value sample)
+
+  -- and they are states
+  pub turned-below : (inverted turned : ℕ) → members turned ≡ turnedStates masks inverted → (u : ℕ) → members turned u ≡ true → u < length masks
+  turned-below inverted turned e u m =
+      ⊎-elim
+      (λ (l : u < length masks). l)
+      (λ (l : length masks ≤ u).
+      clash m
+      (ap (λ (X : Set). X u) e
+      ∙ rw (List·getD-eq-default masks 0 l) (and-false (members inverted u))))
+      (lt-or-le u (length masks))
+
+  pub turned-none : (inverted : ℕ) → inverted ≡ 0 → members 0 ≡ turnedStates masks inverted
+  turned-none inverted e = fun-ext (λ u. rw (e, zero-members u))
 
 -- ---- the words below k are changed: each pair by its mark in either table
 

@@ -9,8 +9,8 @@ ghost use Rattle.pair_tables.specs.Tables.{Admits, Admitted};
 ghost use lib.Dec.{ltb};
 ghost use Rattle.simulation.specs.Sets.{count};
 ghost use Rattle.bits.specs.Word.{members};
-ghost use Rattle.session.specs.Trigger.{accepts};
-ghost use Rattle.pair_tables.specs.Tables.{marked};
+ghost use Rattle.session.specs.Trigger.{matches};
+ghost use Rattle.pair_tables.specs.Tables.{marked, turnedStates};
 
 // Puts a state into the words of the nodes where a mask and a value agree with the sample, or, with a turn of every bit, where they do not; how many they
 // are. Each word is stored, so there is no branch.
@@ -38,44 +38,57 @@ pub fn put_turned(
     count
 }
 
-// Puts a state into the words of the nodes that it admits; how many they are. The turn is known at each call, so that a plain state's loop spends nothing on
-// it, and an inverted one's no more than the count.
-pub fn admit(
-    samples: &[u32],
-    inverted: bool,
-    mask: u32,
-    value: u32,
-    u: u32,
-    table: &mut [u32],
-) -> u32
+// Puts a state, turned round or not, into the words of the nodes that it admits; how many they are. The turn is known at each call, so that a plain state's
+// loop spends nothing on it, and a turned one's no more than the count.
+pub fn admit(samples: &[u32], turned: bool, mask: u32, value: u32, u: u32, table: &mut [u32]) -> u32
     requires { ⌜ (mask < 2 ^ wordBits) × (u < 32) × (length (now samples) ≤ length (now table)) × (length (now samples) ≤ maxNodes) ⌝ }
-    ensures { λ r. ⌜ Admits (now (samples .entry)) inverted mask value u (now (table .entry)) r (now (table .exit)) ⌝ }
+    ensures { λ r. ⌜ Admits (now (samples .entry)) turned mask value u (now (table .entry)) r (now (table .exit)) ⌝ }
 {
-    if inverted {
+    if turned {
         put_turned(samples, bits::ALL, mask, value, u, table)
     } else {
         put_turned(samples, 0, mask, value, u, table)
     }
 }
 
-// Fills a table that is zero with the admitted pairs; how many they are.
+// The states whose answer is turned round: the inverted ones, but for a mask of zero, which admits every node. It is told once for a state; no loop over nodes
+// asks again.
+pub fn turned_states(masks: &[u32], inverted: u32) -> u32
+    requires { ⌜ length (now masks) ≤ 32 ⌝ }
+    ensures { λ r. ⌜ members r ≡ turnedStates (now (masks .entry)) inverted ⌝ }
+{
+    if inverted == 0 {
+        return 0;
+    }
+    let mut wanting = 0;
+    let mut u = 0;
+    while u < masks.len() {
+        if masks[u] != 0 {
+            wanting = bits::added(wanting, u as u32);
+        }
+        u += 1;
+    }
+    inverted & wanting
+}
+
+// Fills a table that is zero with the admitted pairs, these states being turned round; how many they are.
 pub fn admitted(
     masks: &[u32],
     values: &[u32],
-    inverted: u32,
+    turned: u32,
     samples: &[u32],
     table: &mut [u32],
 ) -> u32
     requires { ⌜ (length (now values) ≡ length (now masks)) × (length (now masks) ≤ maxStates) × (length (now samples) ≤ maxNodes) × (length (now table) ≡ maxNodes) ⌝ }
     requires { ⌜ (below (2 ^ wordBits) (now masks) ≡ true) × ((v : ℕ) → getD (now table) v 0 ≡ 0) ⌝ }
-    ensures { λ r. ⌜ Admitted (now (masks .entry)) (now (values .entry)) inverted (now (samples .entry)) r (now (table .exit)) ⌝ }
+    ensures { λ r. ⌜ Admitted (now (masks .entry)) (now (values .entry)) turned (now (samples .entry)) r (now (table .exit)) ⌝ }
 {
     let mut count = 0;
     let mut u = 0;
     while u < masks.len() {
         count += admit(
             samples,
-            bits::has(inverted, u as u32),
+            bits::has(turned, u as u32),
             masks[u],
             values[u],
             u as u32,
@@ -86,11 +99,11 @@ pub fn admitted(
     count
 }
 
-// The states that admit a sample: those that agree with it, turned round where they are inverted.
-pub fn admitted_at(masks: &[u32], values: &[u32], inverted: u32, sample: u32) -> u32
+// The states that admit a sample: those that agree with it, turned round where they are to be.
+pub fn admitted_at(masks: &[u32], values: &[u32], turned: u32, sample: u32) -> u32
     requires { ⌜ (length (now values) ≡ length (now masks)) × (length (now masks) ≤ maxStates) × (below (2 ^ wordBits) (now masks) ≡ true) ⌝ }
-    requires { ⌜ inverted < 2 ^ length (now masks) ⌝ }
-    ensures { λ r. ⌜ members r ≡ (λ u. ltb u (length (now (masks .entry))) && accepts wordBits (members inverted u) (getD (now (masks .entry)) u 0) (getD (now (values .entry)) u 0) sample) ⌝ }
+    requires { ⌜ ((u : ℕ) → members turned u ≡ true → u < length (now masks)) ⌝ }
+    ensures { λ r. ⌜ members r ≡ (λ u. ltb u (length (now (masks .entry))) && matches wordBits (members turned u) (getD (now (masks .entry)) u 0) (getD (now (values .entry)) u 0) sample) ⌝ }
 {
     let mut all = 0;
     let mut u = 0;
@@ -100,7 +113,7 @@ pub fn admitted_at(masks: &[u32], values: &[u32], inverted: u32, sample: u32) ->
         }
         u += 1;
     }
-    bits::differing(all, inverted)
+    bits::differing(all, turned)
 }
 
 // Takes the pairs of another table out.

@@ -1,7 +1,7 @@
 -- The laws of the definitions, and the proofs of the demands.
 pub mod Worked
 pub mod Stands
-pub mod Plain
+pub mod Former
 pub mod Trials
 pub mod Handed
 pub mod Chains

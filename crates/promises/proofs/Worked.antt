@@ -13,7 +13,7 @@ use Rattle.simulation.specs.Pattern.{best}
 use Rattle.simulation.specs.Ordered.{elem, insert, remove, joins}
 use Rattle.bits.specs.Word.{word}
 use Rattle.session.specs.Limits.{maxEdges, maxChanges, fixedSize}
-use Rattle.session.specs.Trigger.{Trigger, Graph, nodes, linked, edge, edgeNumber, agrees, accepts, admits}
+use Rattle.session.specs.Trigger.{Trigger, Graph, nodes, linked, edge, edgeNumber, agrees, matches, accepts, admits}
 use Rattle.session.specs.Layout.{table, markWord, below, inLayout}
 use Rattle.listing.specs.Changes.{joinTo, changes}
 use Rattle.listing.specs.Order.{fold, visit, order}
@@ -79,7 +79,7 @@ told =
     ∷ []
 
 worked : map answer rows ≡ told
-unfolding answer judge rows told self graph verdict insert remove joins elem edge linked admits accepts agrees fires stands best
+unfolding answer judge rows told self graph verdict insert remove joins elem edge linked admits accepts matches agrees fires stands best
     greatest supported shrunk down anyBelow allBelow count changes joinTo trialSet closure grown up reaches
 worked = refl
 
@@ -159,5 +159,5 @@ unfolding both two-nodes graph
 worked-edges = refl
 
 worked-marks : map (markWord two both (stands two both)) (0 ∷ 1 ∷ 2 ∷ []) ≡ 1 ∷ 2 ∷ 0 ∷ []
-unfolding both two two-nodes graph markWord word stands best greatest supported shrunk down anyBelow allBelow linked edge joins elem admits accepts agrees
+unfolding both two two-nodes graph markWord word stands best greatest supported shrunk down anyBelow allBelow linked edge joins elem admits accepts matches agrees
 worked-marks = refl

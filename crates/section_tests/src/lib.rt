@@ -11,9 +11,10 @@ ghost use Rattle.session.specs.Tests.{fits, allNamed, sparse};
 ghost use lib.Bits.{bitAnd};
 ghost use Rattle.simulation.specs.Sets.{allBelow, anyBelow};
 ghost use Rattle.session.specs.Limits.{maxNodes, wordBits};
-ghost use Rattle.session.specs.Trigger.{accepts};
+ghost use Rattle.session.specs.Trigger.{matches, accepts};
 use bits::ALL_HALF;
 use bits::chosen_half;
+use pair_tables::turned_states;
 use sections::narrow;
 
 // Whether each word is below the limit.
@@ -99,7 +100,7 @@ pub fn all_named(edges: &[u32], nodes: u32) -> bool
 pub fn strays_turned(samples: &[u16], marks: &[u16], turn: u16, mask: u16, value: u16) -> u16
     requires { ⌜ (length (now samples) ≡ length (now marks)) × (mask < 2 ^ wordBits) ⌝ }
     requires { ⌜ bitAnd value mask ≡ value ⌝ }
-    ensures { λ r. ⌜ ((b : Bool) → turn ≡ cond b (2 ^ 16 - 1) 0 → members r ≡ (λ u. anyBelow (length (now (marks .entry))) (λ v. members (getD (now (marks .entry)) v 0) u && not (accepts wordBits b mask value (getD (now (samples .entry)) v 0))))) ⌝ }
+    ensures { λ r. ⌜ ((b : Bool) → turn ≡ cond b (2 ^ 16 - 1) 0 → members r ≡ (λ u. anyBelow (length (now (marks .entry))) (λ v. members (getD (now (marks .entry)) v 0) u && not (matches wordBits b mask value (getD (now (samples .entry)) v 0))))) ⌝ }
 {
     let mut all: u16 = 0;
     let mut v = 0;
@@ -110,24 +111,24 @@ pub fn strays_turned(samples: &[u16], marks: &[u16], turn: u16, mask: u16, value
     all
 }
 
-// The marks at nodes that a state does not admit. The turn is known at each call, so that neither loop spends an operation on it.
-pub fn strays(samples: &[u16], marks: &[u16], inverted: bool, mask: u16, value: u16) -> u16
+// The marks at nodes that a state, turned round or not, does not admit. The turn is known at each call, so that neither loop spends an operation on it.
+pub fn strays(samples: &[u16], marks: &[u16], turned: bool, mask: u16, value: u16) -> u16
     requires { ⌜ (length (now samples) ≡ length (now marks)) × (mask < 2 ^ wordBits) ⌝ }
     requires { ⌜ bitAnd value mask ≡ value ⌝ }
-    ensures { λ r. ⌜ members r ≡ (λ u. anyBelow (length (now (marks .entry))) (λ v. members (getD (now (marks .entry)) v 0) u && not (accepts wordBits inverted mask value (getD (now (samples .entry)) v 0)))) ⌝ }
+    ensures { λ r. ⌜ members r ≡ (λ u. anyBelow (length (now (marks .entry))) (λ v. members (getD (now (marks .entry)) v 0) u && not (matches wordBits turned mask value (getD (now (samples .entry)) v 0)))) ⌝ }
 {
-    if inverted {
+    if turned {
         strays_turned(samples, marks, ALL_HALF, mask, value)
     } else {
         strays_turned(samples, marks, 0, mask, value)
     }
 }
 
-// Whether each mark is at a node that its state admits. A state that has no mark is passed over.
+// Whether each mark is at a node that its state admits, these states being turned round. A state that has no mark is passed over.
 pub fn all_sparse(
     masks: &[u32],
     values: &[u32],
-    inverted: u32,
+    turned: u32,
     samples: &[u16],
     marks: &[u16],
     used: u32,
@@ -135,7 +136,7 @@ pub fn all_sparse(
     requires { ⌜ (length (now samples) ≡ length (now marks)) × (length (now values) ≡ length (now masks)) × (length (now masks) ≤ 32) ⌝ }
     requires { ⌜ below (2 ^ wordBits) (now masks) ≡ true ⌝ }
     requires { ⌜ members used ≡ (λ u. anyBelow (length (now marks)) (λ v. members (getD (now marks) v 0) u)) ⌝ }
-    ensures { λ r. ⌜ r ≡ allBelow (length (now (masks .entry))) (λ u. sparse (now (samples .entry)) (now (marks .entry)) (members inverted u) (getD (now (masks .entry)) u 0) (getD (now (values .entry)) u 0) u) ⌝ }
+    ensures { λ r. ⌜ r ≡ allBelow (length (now (masks .entry))) (λ u. sparse (now (samples .entry)) (now (marks .entry)) (matches wordBits (members turned u) (getD (now (masks .entry)) u 0) (getD (now (values .entry)) u 0)) u) ⌝ }
 {
     let mut faults: u32 = 0;
     let mut u = 0;
@@ -143,8 +144,8 @@ pub fn all_sparse(
         if bits::has(used, u as u32) {
             let mask = masks[u];
             let wanted = values[u] & mask;
-            let turned = bits::has(inverted, u as u32);
-            let stray = strays(samples, marks, turned, mask as u16, wanted as u16);
+            let over = bits::has(turned, u as u32);
+            let stray = strays(samples, marks, over, mask as u16, wanted as u16);
             if bits::has(stray as u32, u as u32) {
                 faults = 1;
             }
@@ -154,7 +155,7 @@ pub fn all_sparse(
     faults == 0
 }
 
-// The same of words, whose halves are compared: a vector holds twice as many.
+// The same of words, whose halves are compared, since a vector holds twice as many, and of the states that are inverted.
 pub fn all_admitted(
     masks: &[u32],
     values: &[u32],
@@ -167,7 +168,7 @@ pub fn all_admitted(
     requires { ⌜ below (2 ^ wordBits) (now masks) ≡ true ⌝ }
     requires { ⌜ (below (2 ^ wordBits) (now samples) ≡ true) × (below (2 ^ wordBits) (now marks) ≡ true) × (length (now marks) ≤ maxNodes) ⌝ }
     requires { ⌜ members used ≡ (λ u. anyBelow (length (now marks)) (λ v. members (getD (now marks) v 0) u)) ⌝ }
-    ensures { λ r. ⌜ r ≡ allBelow (length (now (masks .entry))) (λ u. sparse (now (samples .entry)) (now (marks .entry)) (members inverted u) (getD (now (masks .entry)) u 0) (getD (now (values .entry)) u 0) u) ⌝ }
+    ensures { λ r. ⌜ r ≡ allBelow (length (now (masks .entry))) (λ u. sparse (now (samples .entry)) (now (marks .entry)) (accepts wordBits (members inverted u) (getD (now (masks .entry)) u 0) (getD (now (values .entry)) u 0)) u) ⌝ }
 {
     if used == 0 {
         return true;
@@ -180,7 +181,7 @@ pub fn all_admitted(
     all_sparse(
         masks,
         values,
-        inverted,
+        turned_states(masks, inverted),
         &words[..nodes],
         &signs[..nodes],
         used,

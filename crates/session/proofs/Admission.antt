@@ -2,17 +2,20 @@
 use Prim.Native.Nat.{ℕ, _^_, _<_}
 use mathlib.Core.Path.{_≡_, refl, sym, ap, _∙_, fun-ext}
 use mathlib.Core.Logic.{⊎-elim}
-use mathlib.Core.Bool.{Bool, true, false, not, _||_, cond, Bool·beq}
+use mathlib.Core.Bool.{Bool, true, false, not, _&&_, _||_, cond, and-true, and-false, Bool·beq}
 use lib.Bits.{bitAnd, bitXor}
 use lib.Dec.{eqb}
 use lib.ListN.{getD}
-use Rattle.simulation.proofs.Sets.{split, or-l, not-make, all-make}
+use borrow.Author.Tests.{eqb-true}
+use Rattle.simulation.specs.Sets.{Set}
+use Rattle.simulation.proofs.Sets.{clash, refuted, split, and-make, and-l, or-l, not-make, all-make, any-make}
 use Rattle.simulation.proofs.Edges.{all-same}
 use Rattle.bits.specs.Word.{bit, members}
-use Rattle.bits.proofs.Words.{zero-members, and-again}
+use Rattle.bits.proofs.Words.{zero-members, and-again, members-below}
 use Rattle.bits.proofs.Tests.{masked, masked-equal}
 use Rattle.session.specs.Limits.{wordBits}
-use Rattle.session.specs.Trigger.{Trigger, Graph, Marks, agrees, accepts, admits}
+use Rattle.session.specs.Trigger.{Trigger, Graph, states, agrees, matches, accepts, admits}
+use Rattle.session.specs.Former.{agreement, formerly, blankInverted}
 
 -- (value ^ sample) & mask is zero
 pub agrees-masked : (k mask value sample : ℕ) → mask < 2 ^ k → eqb (bitAnd (bitXor value sample) mask) 0 ≡ agrees k mask value sample
@@ -34,38 +37,28 @@ pub agrees-part : (k mask value sample : ℕ) → mask < 2 ^ k → agrees k mask
 agrees-part k mask value sample h =
     sym (agrees-inside k mask (bitAnd value mask) sample h (and-again value mask)) ∙ agrees-equal k mask value sample h
 
--- ---- inverted or not
+-- ---- turned round or not
 
-module _ (k mask value sample : ℕ) where
-  -- a plain state admits where they agree; "an inverted one exactly the nodes that its plain form does not"
-  pub accepts-plain : accepts k false mask value sample ≡ agrees k mask value sample
-  unfolding accepts
-  accepts-plain = refl
-
-  pub accepts-inverted : accepts k true mask value sample ≡ not (accepts k false mask value sample)
-  unfolding accepts
-  accepts-inverted = refl
-
-module _ (k : ℕ) (inverted : Bool) (mask value sample : ℕ) where
+module _ (k : ℕ) (turned : Bool) (mask value sample : ℕ) where
   -- the answer to the comparison, turned round once
-  pub accepts-masked : mask < 2 ^ k → let hit = eqb (bitAnd (bitXor value sample) mask) 0 in cond inverted (not hit) hit ≡ accepts k inverted mask value sample
-  unfolding accepts
-  accepts-masked h = rw (agrees-masked k mask value sample h)
+  pub matches-masked : mask < 2 ^ k → let hit = eqb (bitAnd (bitXor value sample) mask) 0 in cond turned (not hit) hit ≡ matches k turned mask value sample
+  unfolding matches
+  matches-masked h = rw (agrees-masked k mask value sample h)
 
   -- where they do not agree, the value lying inside the mask
-  pub accepts-inside : mask < 2 ^ k → bitAnd value mask ≡ value
-      → let off = not (eqb (bitAnd sample mask) value) in cond inverted (not off) off ≡ not (accepts k inverted mask value sample)
-  unfolding accepts
-  accepts-inside h e = rw (agrees-inside k mask value sample h e) (turns inverted (agrees k mask value sample))
+  pub matches-inside : mask < 2 ^ k → bitAnd value mask ≡ value
+      → let off = not (eqb (bitAnd sample mask) value) in cond turned (not off) off ≡ not (matches k turned mask value sample)
+  unfolding matches
+  matches-inside h e = rw (agrees-inside k mask value sample h e) (turns turned (agrees k mask value sample))
     where
       turns : (i b : Bool) → cond i (not (not b)) (not b) ≡ not (cond i (not b) b)
       turns true b = refl
       turns false b = refl
 
   -- the two differ
-  pub accepts-differs : not (Bool·beq (agrees k mask value sample) inverted) ≡ accepts k inverted mask value sample
-  unfolding accepts
-  accepts-differs = differs inverted (agrees k mask value sample)
+  pub matches-differs : not (Bool·beq (agrees k mask value sample) turned) ≡ matches k turned mask value sample
+  unfolding matches
+  matches-differs = differs turned (agrees k mask value sample)
     where
       differs : (i b : Bool) → not (Bool·beq b i) ≡ cond i (not b) b
       differs true true = refl
@@ -73,32 +66,11 @@ module _ (k : ℕ) (inverted : Bool) (mask value sample : ℕ) where
       differs false true = refl
       differs false false = refl
 
-  pub accepts-part : mask < 2 ^ k → accepts k inverted mask (bitAnd value mask) sample ≡ accepts k inverted mask value sample
-  unfolding accepts
-  accepts-part h = rw (agrees-part k mask value sample h)
+  pub matches-part : mask < 2 ^ k → matches k turned mask (bitAnd value mask) sample ≡ matches k turned mask value sample
+  unfolding matches
+  matches-part h = rw (agrees-part k mask value sample h)
 
--- the trigger with no state inverted
-abbrev pub plainly : Trigger → Trigger
-plainly t = record { masks = t .masks; values = t .values; links = t .links; inverted = 0 }
-
--- value and sample agree: what admission was before states could be inverted
-abbrev pub agreement : Trigger → Graph → Marks
-agreement t g u v = agrees wordBits (getD (t .masks) u 0) (getD (t .values) u 0) (getD (g .samples) v 0)
-
-module _ (t : Trigger) (g : Graph) where
-  -- a trigger without an inverted state has the admissions that it had
-  pub admits-agreement : t .inverted ≡ 0 → admits t g ≡ agreement t g
-  unfolding admits accepts
-  admits-agreement none = fun-ext (λ u. fun-ext (λ v. rw (none, zero-members u)))
-
-  -- "A state may be inverted: it then admits exactly the nodes that its plain form does not."
-  pub admits-inverted : (u v : ℕ) → members (t .inverted) u ≡ true → admits t g u v ≡ not (admits (plainly t) g u v)
-  unfolding admits accepts
-  admits-inverted u v h = rw (h, zero-members u)
-
-  pub admits-same : (u v : ℕ) → members (t .inverted) u ≡ false → admits t g u v ≡ admits (plainly t) g u v
-  unfolding admits accepts
-  admits-same u v h = rw (h, zero-members u)
+-- ---- inverted or not, blank or not
 
 -- "A mask of zero admits every node"
 pub agrees-zero : (k value sample : ℕ) → agrees k 0 value sample ≡ true
@@ -106,6 +78,92 @@ unfolding agrees
 agrees-zero k value sample =
     all-make k (λ i. not (members 0 i) || eqb (bit value i) (bit sample i))
     (λ i l. or-l (eqb (bit value i) (bit sample i)) (not-make (zero-members i)))
+
+module _ (k value sample : ℕ) where
+  -- "A mask of zero admits every node, inverted or not"
+  pub accepts-blank : (inverted : Bool) → accepts k inverted 0 value sample ≡ true
+  unfolding accepts
+  accepts-blank inverted = refl
+
+module _ (k : ℕ) (inverted : Bool) (mask value sample : ℕ) where
+  -- "which is the one exception": a state that is not both inverted and blank admits by the rule for turning round
+  pub accepts-former : (inverted && eqb mask 0) ≡ false → accepts k inverted mask value sample ≡ matches k inverted mask value sample
+  unfolding accepts matches
+  accepts-former h =
+      ⊎-elim
+      (λ (e : eqb mask 0 ≡ true).
+      let plain : inverted ≡ false = refuted inverted (λ i. clash (and-make i e) h) in
+      rw (e, plain, eqb-true mask 0 e) (sym (agrees-zero k value sample)))
+      (λ (e : eqb mask 0 ≡ false). rw e)
+      (split (eqb mask 0))
+
+  -- so what turns a state round is told by the state alone
+  pub accepts-turned : accepts k inverted mask value sample ≡ matches k (inverted && not (eqb mask 0)) mask value sample
+  unfolding accepts matches
+  accepts-turned =
+      ⊎-elim
+      (λ (e : eqb mask 0 ≡ true). rw (e, and-false inverted, eqb-true mask 0 e) (sym (agrees-zero k value sample)))
+      (λ (e : eqb mask 0 ≡ false). rw (e, and-true inverted))
+      (split (eqb mask 0))
+
+module _ (k mask value sample : ℕ) where
+  -- a plain state admits where they agree; "an inverted one exactly the nodes that its plain form does not", where the mask is not zero
+  pub accepts-plain : accepts k false mask value sample ≡ agrees k mask value sample
+  unfolding matches
+  accepts-plain = accepts-former k false mask value sample refl
+
+  pub accepts-inverted : eqb mask 0 ≡ false → accepts k true mask value sample ≡ not (accepts k false mask value sample)
+  unfolding accepts matches
+  accepts-inverted h = rw h
+
+-- the trigger with no state inverted
+abbrev pub plainly : Trigger → Trigger
+plainly t = record { masks = t .masks; values = t .values; links = t .links; inverted = 0 }
+
+module _ (t : Trigger) (g : Graph) where
+  -- a trigger without an inverted state has the admissions that it had before there were any
+  pub admits-agreement : t .inverted ≡ 0 → admits t g ≡ agreement t g
+  unfolding admits
+  admits-agreement none =
+      fun-ext (λ u. fun-ext (λ v. rw (none, zero-members u) (accepts-plain wordBits (getD (t .masks) u 0) (getD (t .values) u 0) (getD (g .samples) v 0))))
+
+  module _ (u v : ℕ) where
+    -- "A state may be inverted: it then admits exactly the nodes that its plain form does not."
+    pub admits-inverted : members (t .inverted) u ≡ true → eqb (getD (t .masks) u 0) 0 ≡ false → admits t g u v ≡ not (admits (plainly t) g u v)
+    unfolding admits
+    admits-inverted h e = rw (h, zero-members u) (accepts-inverted wordBits (getD (t .masks) u 0) (getD (t .values) u 0) (getD (g .samples) v 0) e)
+
+    pub admits-same : members (t .inverted) u ≡ false → admits t g u v ≡ admits (plainly t) g u v
+    unfolding admits
+    admits-same h = rw (h, zero-members u)
+
+    -- "A mask of zero admits every node, inverted or not"
+    pub admits-blank : getD (t .masks) u 0 ≡ 0 → admits t g u v ≡ true
+    unfolding admits
+    admits-blank e = rw e (accepts-blank wordBits (getD (t .values) u 0) (getD (g .samples) v 0) (members (t .inverted) u))
+
+    -- "it formerly admitted nothing"
+    pub formerly-none : members (t .inverted) u ≡ true → getD (t .masks) u 0 ≡ 0 → formerly t g u v ≡ false
+    unfolding matches
+    formerly-none h e = rw (h, e, agrees-zero wordBits (getD (t .values) u 0) (getD (g .samples) v 0))
+
+    -- "All other admissions are shown equal to the former ones."
+    pub admits-formerly : (members (t .inverted) u && eqb (getD (t .masks) u 0) 0) ≡ false → admits t g u v ≡ formerly t g u v
+    unfolding admits
+    admits-formerly h = accepts-former wordBits (members (t .inverted) u) (getD (t .masks) u 0) (getD (t .values) u 0) (getD (g .samples) v 0) h
+
+  -- so a trigger without such a state has its former admissions; no inverted state is beyond the last
+  pub admits-former : t .inverted < 2 ^ states t → blankInverted t ≡ false → admits t g ≡ formerly t g
+  unfolding blankInverted
+  admits-former few none = fun-ext (λ u. fun-ext (λ v. admits-formerly u v (refuted (blank u) (found u))))
+    where
+      blank : Set
+      blank u = members (t .inverted) u && eqb (getD (t .masks) u 0) 0
+
+      found : (u : ℕ) → blank u ≡ true → ⊥
+      found u h =
+          let i = and-l (members (t .inverted) u) (eqb (getD (t .masks) u 0) 0) h in
+          clash (any-make (states t) blank u (members-below (states t) (t .inverted) few u i) h) none
 
 -- the value's bits outside the mask are ignored
 pub agrees-outside : (k mask value value' sample : ℕ) → ((i : ℕ) → i < k → members mask i ≡ true → bit value i ≡ bit value' i)

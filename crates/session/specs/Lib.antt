@@ -3,3 +3,4 @@ pub mod Limits
 pub mod Trigger
 pub mod Layout
 pub mod Tests
+pub mod Former

@@ -4,7 +4,7 @@ use mathlib.Core.Bool.{Bool, not, _&&_, _||_, cond}
 use mathlib.Core.List.{List}
 use lib.Dec.{ltb}
 use lib.ListN.{length, getD}
-use Rattle.simulation.specs.Sets.{allBelow}
+use Rattle.simulation.specs.Sets.{Set, allBelow}
 use Rattle.simulation.specs.Ordered.{ascends}
 use Rattle.bits.specs.Word.{members}
 use Rattle.session.specs.Limits.{maxStates, maxNodes, maxEdges, wordBits, invertedAt, masksAt, valuesAt, linksAt, samplesAt, edgesAt, marksAt}
@@ -19,10 +19,9 @@ fits k used xs = allBelow (length xs) (λ i. ltb (getD xs i 0) (cond (ltb i used
 unfoldable pub allNamed : ℕ → List ℕ → Bool
 allNamed nodes es = allBelow (length es) (λ k. ltb (getD es k 0 / maxNodes) nodes && ltb (getD es k 0 % maxNodes) nodes)
 
--- no mark of the state u, inverted or not, is at a sample that its mask and value do not admit
-unfoldable pub sparse : List ℕ → List ℕ → Bool → ℕ → ℕ → ℕ → Bool
-sparse samples marks inverted mask value u =
-    allBelow (length marks) (λ v. not (members (getD marks v 0) u) || accepts wordBits inverted mask value (getD samples v 0))
+-- no mark of the state u is at a sample that fails the test
+unfoldable pub sparse : List ℕ → List ℕ → Set → ℕ → Bool
+sparse samples marks test u = allBelow (length marks) (λ v. not (members (getD marks v 0) u) || test (getD samples v 0))
 
 -- the layout test of a memory that is long enough, with n states, m nodes and e edges: each section, then what it says of the others
 unfoldable pub triggerTest : List ℕ → ℕ → Bool
@@ -40,5 +39,5 @@ marksTest xs n m =
     fits n m (part xs marksAt maxNodes)
     && allBelow n
     (λ u.
-    sparse (part xs samplesAt m) (part xs marksAt m) (members (getD xs invertedAt 0) u) (getD (part xs masksAt n) u 0)
-    (getD (part xs valuesAt n) u 0) u)
+    sparse (part xs samplesAt m) (part xs marksAt m)
+    (accepts wordBits (members (getD xs invertedAt 0) u) (getD (part xs masksAt n) u 0) (getD (part xs valuesAt n) u 0)) u)

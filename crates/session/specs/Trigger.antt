@@ -55,9 +55,13 @@ withoutEdge g a b = record { samples = g .samples; edges = remove (edgeNumber a 
 unfoldable pub agrees : ℕ → ℕ → ℕ → ℕ → Bool
 agrees k mask value sample = allBelow k (λ i. not (members mask i) || eqb (bit value i) (bit sample i))
 
--- 02, Job 1, an inverted state "then admits exactly the nodes that its plain form does not": the plain agreement, turned round where it is inverted
+-- 02, Job 1, an inverted state "then admits exactly the nodes that its plain form does not": the agreement, turned round or not
+unfoldable pub matches : ℕ → Bool → ℕ → ℕ → ℕ → Bool
+matches k turned mask value sample = cond turned (not (agrees k mask value sample)) (agrees k mask value sample)
+
+-- 02, Job 9, "A mask of zero admits every node, inverted or not, which is the one exception to Job 1"
 unfoldable pub accepts : ℕ → Bool → ℕ → ℕ → ℕ → Bool
-accepts k inverted mask value sample = cond inverted (not (agrees k mask value sample)) (agrees k mask value sample)
+accepts k inverted mask value sample = eqb mask 0 || matches k inverted mask value sample
 
 -- "State u admits node v"
 unfoldable pub admits : Trigger → Graph → ℕ → ℕ → Bool

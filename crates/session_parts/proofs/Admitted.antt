@@ -1,36 +1,46 @@
 -- What is admitted, told from the parts of a session in layout: here alone admission is taken apart.
-use Prim.Native.Nat.{ℕ, _<_}
-use mathlib.Core.Path.{_≡_, sym, _∙_}
+use Prim.Native.Nat.{ℕ, _*_, _/_, _%_, _<_}
+use mathlib.Core.Path.{_≡_, sym, ap, fun-ext, _∙_}
 use mathlib.Core.Bool.{true, _&&_}
 use mathlib.Core.List.{List}
 use lib.Dec.{ltb}
 use lib.ListN.{length, getD}
 use borrow.Author.Tests.{ltb-true, lt-ltb}
-use Rattle.simulation.specs.Sets.{Set}
+use Rattle.simulation.specs.Sets.{Set, count}
 use Rattle.simulation.proofs.Sets.{and-make, and-l, and-r}
 use Rattle.bits.specs.Word.{members}
 use Rattle.session.specs.Limits.{wordBits}
-use Rattle.session.specs.Trigger.{states, nodes, accepts, admits}
+use Rattle.session.specs.Trigger.{states, nodes, matches, admits}
 use Rattle.session.specs.Layout.{triggerOf, graphOf}
 use Rattle.pair_tables.specs.Tables.{marked, Admitted}
-use Rattle.session_parts.specs.Admission.{admittedAt, AdmittedPairs}
+use Rattle.pair_tables.proofs.Tabling.{turned-admits}
+use Rattle.session_parts.specs.Admission.{turnedIn, admittedAt, AdmittedPairs}
 
-module _ (xs masks values samples : List ℕ) (inverted : ℕ) (masks-is : masks ≡ triggerOf xs .masks) (values-is : values ≡ triggerOf xs .values)
-    (inverted-is : inverted ≡ triggerOf xs .inverted) (samples-is : samples ≡ graphOf xs .samples) where
-  -- all pairs
-  pub pairs-admitted : {n : ℕ} {ts : List ℕ} → Admitted masks values inverted samples n ts → AdmittedPairs xs n ts
+module _ (xs : List ℕ) {masks values samples : List ℕ} (turned : ℕ) (masks-is : masks ≡ triggerOf xs .masks) (values-is : values ≡ triggerOf xs .values)
+    (samples-is : samples ≡ graphOf xs .samples) (turned-is : members turned ≡ turnedIn xs) where
+  -- what the loops compute is admission
+  one-admitted : (u v : ℕ) → matches wordBits (members turned u) (getD masks u 0) (getD values u 0) (getD samples v 0) ≡ admits (triggerOf xs) (graphOf xs) u v
   unfolding admits
-  pairs-admitted {n} {ts} a =
-      let b : Admitted (triggerOf xs .masks) (triggerOf xs .values) (triggerOf xs .inverted) (graphOf xs .samples) n ts =
-      rw (masks-is, values-is, inverted-is, samples-is) at a in
-      record { long = b .long; words = b .words; counted = b .counted }
+  one-admitted u v =
+      rw (masks-is, values-is, samples-is)
+      (turned-admits (triggerOf xs .masks) (triggerOf xs .inverted) turned turned-is u (getD (triggerOf xs .values) u 0) (getD (graphOf xs .samples) v 0))
+
+  -- all pairs
+  pub pairs-admitted : {n : ℕ} {ts : List ℕ} → Admitted masks values turned samples n ts → AdmittedPairs xs n ts
+  pairs-admitted {n} {ts} a = record {
+    long = a .long;
+    words = λ u v. a .words u v ∙ rw (one-admitted u v, ap length masks-is, ap length samples-is);
+    counted =
+        a .counted
+        ∙ rw (ap length masks-is, ap length samples-is)
+        (ap (count (nodes (graphOf xs) * states (triggerOf xs))) (fun-ext (λ p. one-admitted (p % states (triggerOf xs)) (p / states (triggerOf xs)))));
+  }
 
   -- the states at a node
   pub node-admitted : (v : ℕ) {X : Set}
-      → X ≡ (λ u. ltb u (length masks) && accepts wordBits (members inverted u) (getD masks u 0) (getD values u 0) (getD samples v 0))
+      → X ≡ (λ u. ltb u (length masks) && matches wordBits (members turned u) (getD masks u 0) (getD values u 0) (getD samples v 0))
       → X ≡ admittedAt xs v
-  unfolding admits
-  node-admitted v e = rw (masks-is, values-is, inverted-is, samples-is) at e
+  node-admitted v e = e ∙ fun-ext (λ u. rw (one-admitted u v, ap length masks-is))
 
 -- a pair of the table is an admitted one, and back
 module _ (xs : List ℕ) {n : ℕ} {ts : List ℕ} (a : AdmittedPairs xs n ts) where

@@ -9,7 +9,11 @@ use Rattle.simulation.specs.Sets.{Set, count}
 use Rattle.session.specs.Limits.{maxNodes}
 use Rattle.session.specs.Trigger.{states, nodes, admits}
 use Rattle.session.specs.Layout.{triggerOf, graphOf}
-use Rattle.pair_tables.specs.Tables.{marked}
+use Rattle.pair_tables.specs.Tables.{marked, turnedStates}
+
+-- the states whose answer is turned round
+abbrev pub turnedIn : List ℕ → Set
+turnedIn xs = turnedStates (triggerOf xs .masks) (triggerOf xs .inverted)
 
 -- the states that admit the node v
 abbrev pub admittedAt : List ℕ → ℕ → Set

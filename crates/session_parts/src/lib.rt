@@ -10,9 +10,10 @@ ghost use Rattle.pair_tables.specs.Tables.{marked};
 ghost use Rattle.session.specs.Trigger.{nodes};
 ghost use Rattle.bits.specs.Word.{members};
 ghost use Rattle.session_parts.specs.Inside.{Inside};
-ghost use Rattle.session_parts.specs.Admission.{admittedAt, AdmittedPairs};
+ghost use Rattle.session_parts.specs.Admission.{turnedIn, admittedAt, AdmittedPairs};
 use pair_tables::admitted;
 use pair_tables::admitted_at;
+use pair_tables::turned_states;
 
 // The part of a memory that begins at a place and has so many words.
 pub fn part_of(session: &[u32], at: usize, used: usize) -> &[u32]
@@ -74,6 +75,14 @@ pub fn marks_of(session: &[u32]) -> &[u32]
     &session[session::MARKS_AT..session::FIXED_SIZE]
 }
 
+// The states whose answer is turned round.
+pub fn turned_of(session: &[u32]) -> u32
+    requires { ⌜ inLayout (now session) ≡ true ⌝ }
+    ensures { λ r. ⌜ members r ≡ turnedIn (now (session .entry)) ⌝ }
+{
+    turned_states(masks_of(session), inverted_of(session))
+}
+
 // Fills a table that is zero with the admitted pairs; how many they are.
 pub fn admitted_pairs(session: &[u32], table: &mut [u32]) -> u32
     requires { ⌜ (inLayout (now session) ≡ true) × (length (now table) ≡ maxNodes) × ((v : ℕ) → getD (now table) v 0 ≡ 0) ⌝ }
@@ -82,22 +91,22 @@ pub fn admitted_pairs(session: &[u32], table: &mut [u32]) -> u32
     admitted(
         masks_of(session),
         values_of(session),
-        inverted_of(session),
+        turned_of(session),
         samples_of(session),
         table,
     )
 }
 
-// The states that admit a node.
-pub fn admitting(session: &[u32], node: u32) -> u32
-    requires { ⌜ (inLayout (now session) ≡ true) × (node < nodes (graphOf (now session))) ⌝ }
+// The states that admit a node. Those turned round are handed in, since a caller asks for many nodes.
+pub fn admitting(session: &[u32], turned: u32, node: u32) -> u32
+    requires { ⌜ (inLayout (now session) ≡ true) × (members turned ≡ turnedIn (now session)) × (node < nodes (graphOf (now session))) ⌝ }
     ensures { λ r. ⌜ members r ≡ admittedAt (now (session .entry)) node ⌝ }
 {
     let samples = samples_of(session);
     admitted_at(
         masks_of(session),
         values_of(session),
-        inverted_of(session),
+        turned,
         samples[node as usize],
     )
 }

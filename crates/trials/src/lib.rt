@@ -15,6 +15,7 @@ ghost use Rattle.simulation.specs.Pattern.{system};
 ghost use Rattle.simulation.specs.Ordered.{ascends};
 ghost use Rattle.pair_tables.specs.Tables.{marked};
 ghost use Rattle.session_parts.specs.Inside.{Inside};
+ghost use Rattle.session_parts.specs.Admission.{turnedIn};
 use edge_indexes::STARTS;
 use edge_indexes::index_starts;
 use editing::refine_at;
@@ -29,6 +30,7 @@ use session_parts::admitting;
 use session_parts::edges_of;
 use session_parts::links_of;
 use session_parts::marks_of;
+use session_parts::turned_of;
 use worklist::WAITING_WORDS;
 use worklist::call_all;
 use worklist::put_in;
@@ -39,9 +41,10 @@ pub fn seeds_at(session: &[u32], start: u32, end: u32) -> u32
     ensures { λ r. ⌜ members r ≡ seedsOf (now (session .entry)) start end ⌝ }
 {
     let marks = marks_of(session);
-    let at_end = admitting(session, end);
+    let turned = turned_of(session);
+    let at_end = admitting(session, turned, end);
     let able = linking(links_of(session), at_end);
-    let at_start = admitting(session, start);
+    let at_start = admitting(session, turned, start);
     able & bits::difference(at_start, marks[start as usize])
 }
 
@@ -86,12 +89,12 @@ pub fn try_pairs(
 }
 
 // Whether a state of the word is fresh at the node.
-pub fn fresh_among(session: &[u32], word: u32, node: u32) -> bool
-    requires { ⌜ (inLayout (now session) ≡ true) × (node < nodes (graphOf (now session))) ⌝ }
+pub fn fresh_among(session: &[u32], turned: u32, word: u32, node: u32) -> bool
+    requires { ⌜ (inLayout (now session) ≡ true) × (members turned ≡ turnedIn (now session)) × (node < nodes (graphOf (now session))) ⌝ }
     ensures { λ r. ⌜ r ≡ freshAmong (now (session .entry)) word node ⌝ }
 {
     let marks = marks_of(session);
-    let able = admitting(session, node);
+    let able = admitting(session, turned, node);
     bits::meet(word, bits::difference(able, marks[node as usize]))
 }
 
@@ -101,11 +104,12 @@ pub fn alone(session: &[u32], start: u32, word: u32) -> bool
     ensures { λ r. ⌜ r ≡ aloneAt (now (session .entry)) start word ⌝ }
 {
     let edges = edges_of(session);
+    let turned = turned_of(session);
     let mut k = 0;
     while k < edges.len() {
         let edge = edges[k];
         if edge % session::EDGE_BASE == start {
-            if fresh_among(session, word, edge / session::EDGE_BASE) {
+            if fresh_among(session, turned, word, edge / session::EDGE_BASE) {
                 return false;
             }
         }

@@ -13,17 +13,17 @@ use Rattle.pair_tables.proofs.admitted.Statement.{statement}
 use Rattle.pair_tables.proofs.admitted.Tie as tie
 
 abbrev Inv-loop : tie.InvT-loop
-Inv-loop masks values inverted samples table₀ count₀ u₀ table count u =
-    (u ≤ length masks) × (count ≤ u * maxNodes) × Filled masks values inverted samples u count table
+Inv-loop masks values turned samples table₀ count₀ u₀ table count u =
+    (u ≤ length masks) × (count ≤ u * maxNodes) × Filled masks values turned samples u count table
 
 abbrev μ-loop : tie.MeasureT-loop
-μ-loop masks values inverted samples table₀ count₀ u₀ table count u = length masks - u
+μ-loop masks values turned samples table₀ count₀ u₀ table count u = length masks - u
 
 loop-holds : tie.Need-loop-holds Inv-loop μ-loop
 loop-holds c =
     let s = c .before .before .before .before in
     let a = s .args in
-    (search needs, search needs, filled-start (a .masks .now) (a .values .now) (a .inverted) (a .samples .now) (search needs) (s .pre .1 .1))
+    (search needs, search needs, filled-start (a .masks .now) (a .values .now) (a .turned) (a .samples .now) (search needs) (s .pre .1 .1))
 
 cast-has : tie.Need-cast-has Inv-loop μ-loop
 cast-has c = search needs
@@ -56,14 +56,14 @@ admit-requires c κs =
 put : (c : tie.After-admit Inv-loop μ-loop)
     → let l = c .before .before .before .before .before .before in
     let a = l .before .before .before .before .before .args in
-    Admits (a .samples .now) (members (a .inverted) (l .loop .u)) (getD (a .masks .now) (l .loop .u) 0) (getD (a .values .now) (l .loop .u) 0) (l .loop .u)
+    Admits (a .samples .now) (members (a .turned) (l .loop .u)) (getD (a .masks .now) (l .loop .u) 0) (getD (a .values .now) (l .loop .u) 0) (l .loop .u)
     (l .loop .table) (c .admit .result) (c .admit .last .1 .1 .1 .1 .1 .0)
 put c = rw (c .before .before .before .before .has .ensures) at (c .admit .ensures)
 
 add-count : tie.Need-add-count Inv-loop μ-loop
 add-count c =
     let a = c .before .before .before .before .before .before .before .before .before .before .before .before .before .args in
-    omega (arith, admits-few (a .masks .now) (a .values .now) (a .inverted) (a .samples .now) (put (c .before .before)))
+    omega (arith, admits-few (a .masks .now) (a .values .now) (a .turned) (a .samples .now) (put (c .before .before)))
 
 add-u : tie.Need-add-u Inv-loop μ-loop
 add-u c = search needs
@@ -77,8 +77,8 @@ loop-again c =
     let a = l .before .before .before .before .before .args in
     let e = put (c .before .before) in (
       search needs,
-      omega (arith, admits-few (a .masks .now) (a .values .now) (a .inverted) (a .samples .now) e),
-      filled-more (a .masks .now) (a .values .now) (a .inverted) (a .samples .now) (l .loop .inv .2) e,
+      omega (arith, admits-few (a .masks .now) (a .values .now) (a .turned) (a .samples .now) e),
+      filled-more (a .masks .now) (a .values .now) (a .turned) (a .samples .now) (l .loop .inv .2) e,
     )
 
 same-length : tie.Need-same-length Inv-loop μ-loop
@@ -88,7 +88,7 @@ returns : tie.Need-returns Inv-loop μ-loop
 returns c =
     let a = c .before .before .before .before .before .before .args in
     let end : c .before .loop .u ≡ length (a .masks .now) = omega arith in
-    filled-end (a .masks .now) (a .values .now) (a .inverted) (a .samples .now) (rw end at (c .before .loop .inv .2))
+    filled-end (a .masks .now) (a .values .now) (a .turned) (a .samples .now) (rw end at (c .before .loop .inv .2))
 
 pub admitted-spec : {M : Type 1} → statement M
 admitted-spec =

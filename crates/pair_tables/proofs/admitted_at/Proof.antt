@@ -1,4 +1,4 @@
--- `admitted_at` meets its contract: the states below u that agree with the sample were put in; at the end the set is turned round where they are inverted.
+-- `admitted_at` meets its contract: the states below u that agree with the sample were put in; at the end the set is turned round where it is to be.
 use Prim.Native.Nat.{_-_, _^_, _<_, _≤_}
 use borrow.Author.Needs.{needs}
 use native.Mathlib.Omega.{arith}
@@ -16,10 +16,10 @@ use Rattle.pair_tables.proofs.admitted_at.Statement.{statement}
 use Rattle.pair_tables.proofs.admitted_at.Tie as tie
 
 abbrev Inv-loop : tie.InvT-loop
-Inv-loop masks values inverted sample all₀ u₀ all u = (u ≤ length masks) × (members all ≡ gained none (agreeing masks values sample) u)
+Inv-loop masks values turned sample all₀ u₀ all u = (u ≤ length masks) × (members all ≡ gained none (agreeing masks values sample) u)
 
 abbrev μ-loop : tie.MeasureT-loop
-μ-loop masks values inverted sample all₀ u₀ all u = length masks - u
+μ-loop masks values turned sample all₀ u₀ all u = length masks - u
 
 loop-holds : tie.Need-loop-holds Inv-loop μ-loop
 loop-holds c = let a = c .before .before .args in (search needs, fun-ext zero-members ∙ gained-none none (agreeing (a .masks .now) (a .values .now) (a .sample)))
@@ -76,7 +76,7 @@ returns c =
     let l = c .before .before .loop in
     let end : l .u ≡ length (a .masks .now) = omega arith in
     let all = l .inv .1 ∙ ap (gained none (agreeing (a .masks .now) (a .values .now) (a .sample))) end in
-    agreeing-turned (a .masks .now) (a .values .now) (a .sample) (length (a .masks .now)) (a .inverted) (members (l .all)) (members (c .differing .result))
+    agreeing-turned (a .masks .now) (a .values .now) (a .sample) (length (a .masks .now)) (a .turned) (members (l .all)) (members (c .differing .result))
     (s .pre .1) all (c .differing .ensures)
 
 pub admitted-at-spec : {M : Type 1} → statement M

@@ -8,7 +8,7 @@ use lib.Bits.{bitAnd, bitXor}
 use lib.Dec.{eqb}
 use lib.ListN.{length, getD, length-set}
 use Rattle.session.specs.Limits.{wordBits}
-use Rattle.session.proofs.Admission.{accepts-masked}
+use Rattle.session.proofs.Admission.{matches-masked}
 use Rattle.pair_tables.proofs.Admitting.{Seen, seen-start, seen-step, seen-end, picked-le}
 use Rattle.pair_tables.proofs.put_turned.Statement.{statement}
 use Rattle.pair_tables.proofs.put_turned.Tie as tie
@@ -89,7 +89,7 @@ loop-again c =
       length-set (l .loop .table) (l .loop .v) _ ∙ l .loop .inv .2,
       λ b e.
           seen-step (a .samples .now) b (a .mask) (a .value) (a .u) (a .table .now) (l .loop .inv .3 b e) (l .before .only .result) (p .result) (q .result)
-          (hit l b) (search needs) (accepts-masked wordBits b (a .mask) (a .value) sample (s .pre .0 .0)) (l .before .only .ensures) (p .ensures b e)
+          (hit l b) (search needs) (matches-masked wordBits b (a .mask) (a .value) sample (s .pre .0 .0)) (l .before .only .ensures) (p .ensures b e)
           (q .ensures b e),
     )
 

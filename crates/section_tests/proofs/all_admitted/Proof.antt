@@ -9,9 +9,11 @@ use Rattle.simulation.specs.Sets.{Set, allBelow}
 use Rattle.simulation.proofs.Sets.{all-make}
 use Rattle.bits.specs.Word.{members}
 use Rattle.bits.proofs.Gathers.{gathers}
+use Rattle.session.specs.Limits.{wordBits}
+use Rattle.session.specs.Trigger.{matches, accepts}
 use Rattle.session.specs.Tests.{sparse}
 use Rattle.bits.proofs.Words.{zero-members}
-use Rattle.section_tests.proofs.Unadmitted.{sparse-none}
+use Rattle.section_tests.proofs.Unadmitted.{sparse-none, sparse-turned}
 use Rattle.sections.proofs.Fills.{front-read, front-inside}
 use Rattle.section_tests.proofs.all_admitted.Statement.{statement}
 use Rattle.section_tests.proofs.all_admitted.Tie as tie
@@ -62,29 +64,32 @@ marks-read c =
     let g = c .before .before .before .before .before .before in
     front-read zeros (c .narrow2 .last .0) (start g .args .marks .now) (nodes g) (c .narrow2 .ensures) refl
 
+turned-states-requires : tie.Need-turned-states-requires
+turned-states-requires c κs = search needs
+
 array-share-prefix-words : tie.Need-array-share-prefix-words
 array-share-prefix-words c =
-    let n = c .before .before .before .before in
+    let n = c .before .before .before .before .before in
     let g = n .before .before .before in
     front-inside (n .narrow .last .0) (start g .args .samples .now) (drop (nodes g) zeros) (nodes g) (n .narrow .ensures) (start g .pre .0 .0)
 
 slice-aggregate-all-sparse : tie.Need-slice-aggregate-all-sparse
 slice-aggregate-all-sparse c =
-    let n = c .before .before .before .before .before in
+    let n = c .before .before .before .before .before .before in
     sym (ap length (samples-read n) ∙ start (n .before .before .before) .pre .0 .0)
 
 array-share-prefix-signs : tie.Need-array-share-prefix-signs
 array-share-prefix-signs c =
-    let m = c .before .before in
+    let m = c .before .before .before in
     let g = m .before .before .before .before .before .before in
     front-inside (m .narrow2 .last .0) (start g .args .marks .now) (drop (nodes g) zeros) (nodes g) (m .narrow2 .ensures) refl
 
 slice-aggregate-all-sparse-2 : tie.Need-slice-aggregate-all-sparse-2
-slice-aggregate-all-sparse-2 c = sym (ap length (marks-read (c .before .before .before)))
+slice-aggregate-all-sparse-2 c = sym (ap length (marks-read (c .before .before .before .before)))
 
 all-sparse-requires : tie.Need-all-sparse-requires
 all-sparse-requires c κs =
-    let m = c .before .before .before in
+    let m = c .before .before .before .before in
     let n = m .before .before .before in
     let g = n .before .before .before in
     let s = start g in (
@@ -99,21 +104,25 @@ returns : tie.Need-returns
 returns c =
     let g = c .before in
     let a = start g .args in
-    let test : Set = λ u. sparse (a .samples .now) (a .marks .now) (members (a .inverted) u) (getD (a .masks .now) u 0) (getD (a .values .now) u 0) u in
+    let test : Set = λ u. sparse (a .samples .now) (a .marks .now) (accepts wordBits (members (a .inverted) u) (getD (a .masks .now) u 0) (getD (a .values .now) u 0)) u in
     sym
     (all-make (length (a .masks .now)) test
     (λ u l.
-    sparse-none (a .samples .now) (a .marks .now) (members (a .inverted) u) (getD (a .masks .now) u 0) (getD (a .values .now) u 0) (a .used) u (start g .pre .1 .1 .1)
+    sparse-none (a .samples .now) (a .marks .now) (accepts wordBits (members (a .inverted) u) (getD (a .masks .now) u 0) (getD (a .values .now) u 0)) (a .used) u (start g .pre .1 .1 .1)
     (ap (λ (w : ℕ). members w u) (c .if1 .taken) ∙ zero-members u)))
 
 returns-2 : tie.Need-returns-2
 returns-2 c =
-    let m = c .before .before .before .before in
+    let t = c .before .before .before in
+    let m = t .before .before in
     let n = m .before .before .before in
     let a = start (n .before .before .before) .args in
     c .all-sparse .ensures
-    ∙ ap₂ (λ (ss ms : List ℕ). allBelow (length (a .masks .now)) (λ u. sparse ss ms (members (a .inverted) u) (getD (a .masks .now) u 0) (getD (a .values .now) u 0) u))
+    ∙ ap₂
+    (λ (ss ms : List ℕ).
+    allBelow (length (a .masks .now)) (λ u. sparse ss ms (matches wordBits (members (t .turned-states .result) u) (getD (a .masks .now) u 0) (getD (a .values .now) u 0)) u))
     (samples-read n) (marks-read m)
+    ∙ sparse-turned (a .samples .now) (a .marks .now) (a .masks .now) (a .values .now) (a .inverted) (t .turned-states .result) (t .turned-states .ensures)
 
 pub all-admitted-spec : {M : Type 1} → statement M
 all-admitted-spec =
@@ -126,6 +135,7 @@ all-admitted-spec =
     array-borrow-prefix-signs
     slice-aggregate-narrow-2
     narrow-requires-2
+    turned-states-requires
     array-share-prefix-words
     slice-aggregate-all-sparse
     array-share-prefix-signs

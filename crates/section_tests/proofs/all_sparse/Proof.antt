@@ -13,37 +13,43 @@ use Rattle.bits.specs.Word.{members}
 use Rattle.bits.proofs.Words.{and-again}
 use Rattle.bits.proofs.Gathers.{gathers}
 use Rattle.session.specs.Limits.{wordBits}
+use Rattle.session.specs.Trigger.{matches}
 use Rattle.session.specs.Tests.{sparse}
+use Rattle.session.proofs.Admission.{matches-part}
 use Rattle.session.proofs.Tables.{below-take}
-use Rattle.section_tests.proofs.Unadmitted.{stray, sparse-stray, sparse-part, sparse-none}
+use Rattle.section_tests.proofs.Unadmitted.{stray, sparse-stray, sparse-same, sparse-none}
 use Rattle.simulation.proofs.Folds.{Folded, fold-start, fold-pass, fold-fault, fold-end}
 use Rattle.section_tests.proofs.all_sparse.Statement.{statement}
 use Rattle.section_tests.proofs.all_sparse.Tie as tie
 
 -- the marks of the state u are admitted
 abbrev admitted : List ℕ → List ℕ → ℕ → List ℕ → List ℕ → Set
-admitted masks values inverted samples marks u = sparse samples marks (members inverted u) (getD masks u 0) (getD values u 0) u
+admitted masks values turned samples marks u = sparse samples marks (matches wordBits (members turned u) (getD masks u 0) (getD values u 0)) u
 
 abbrev Inv-loop : tie.InvT-loop
-Inv-loop masks values inverted samples marks used faults₀ u₀ faults u = Folded (admitted masks values inverted samples marks) (length masks) faults u
+Inv-loop masks values turned samples marks used faults₀ u₀ faults u = Folded (admitted masks values turned samples marks) (length masks) faults u
 
 abbrev μ-loop : tie.MeasureT-loop
-μ-loop masks values inverted samples marks used faults₀ u₀ faults u = length masks - u
+μ-loop masks values turned samples marks used faults₀ u₀ faults u = length masks - u
 
 abbrev start : tie.In-loop Inv-loop μ-loop → tie.Start Inv-loop μ-loop
 start c = c .before .before .before .before .before .before
 
 -- what the marks that are found say, with the part of the value inside the mask
-tested : (samples marks : List ℕ) (inverted : ℕ) (turned : Bool) (mask value all u : ℕ) → mask < 2 ^ wordBits → turned ≡ members inverted u
-    → members all ≡ gathers (length marks) (stray samples marks turned mask (bitAnd value mask))
-    → sparse samples marks (members inverted u) mask value u ≡ not (members all u)
-tested samples marks inverted turned mask value all u h t e =
-    rw (← t) (sym (sparse-stray samples marks turned mask (bitAnd value mask) all u e ∙ sparse-part samples marks turned mask value u h))
+tested : (samples marks : List ℕ) (turned : ℕ) (over : Bool) (mask value all u : ℕ) → mask < 2 ^ wordBits → over ≡ members turned u
+    → members all ≡ gathers (length marks) (stray samples marks (matches wordBits over mask (bitAnd value mask)))
+    → sparse samples marks (matches wordBits (members turned u) mask value) u ≡ not (members all u)
+tested samples marks turned over mask value all u h t e =
+    let inside : Set = matches wordBits over mask (bitAnd value mask) in
+    rw (← t)
+    (sym
+    (sparse-stray samples marks inside all u e
+    ∙ sparse-same samples marks inside (matches wordBits over mask value) (λ x. matches-part wordBits over mask value x h) u))
 
 loop-holds : tie.Need-loop-holds Inv-loop μ-loop
 loop-holds c =
     let a = c .before .before .before .before .args in
-    fold-start (admitted (a .masks .now) (a .values .now) (a .inverted) (a .samples .now) (a .marks .now)) (length (a .masks .now))
+    fold-start (admitted (a .masks .now) (a .values .now) (a .turned) (a .samples .now) (a .marks .now)) (length (a .masks .now))
 
 cast-has : tie.Need-cast-has Inv-loop μ-loop
 cast-has c = search needs
@@ -110,7 +116,7 @@ loop-again c =
     let t = c .before .before in
     let l = t .before .loop in
     let a = start t .args in
-    let P = admitted (a .masks .now) (a .values .now) (a .inverted) (a .samples .now) (a .marks .now) in
+    let P = admitted (a .masks .now) (a .values .now) (a .turned) (a .samples .now) (a .marks .now) in
     let n = length (a .masks .now) in
     let mask = getD (a .masks .now) (l .u) 0 in
     let value = getD (a .values .now) (l .u) 0 in
@@ -118,25 +124,25 @@ loop-again c =
     (λ w.
     rw (w .7)
     (fold-fault P n (l .u) (omega arith)
-    (tested (a .samples .now) (a .marks .now) (a .inverted) (w .3 .result) mask value (w .4 .result) (l .u) (small t) (w .3 .ensures) (w .4 .ensures)
+    (tested (a .samples .now) (a .marks .now) (a .turned) (w .3 .result) mask value (w .4 .result) (l .u) (small t) (w .3 .ensures) (w .4 .ensures)
     ∙ ap not (sym (w .5 .ensures) ∙ w .6 .taken))))
     (⊎-elim
     (λ w.
     rw (w .7)
     (fold-pass P n (l .faults) (l .u) (l .inv) (omega arith)
-    (tested (a .samples .now) (a .marks .now) (a .inverted) (w .3 .result) mask value (w .4 .result) (l .u) (small t) (w .3 .ensures) (w .4 .ensures)
+    (tested (a .samples .now) (a .marks .now) (a .turned) (w .3 .result) mask value (w .4 .result) (l .u) (small t) (w .3 .ensures) (w .4 .ensures)
     ∙ ap not (sym (w .5 .ensures) ∙ w .6 .left))))
     (λ w.
     rw (w .1)
     (fold-pass P n (l .faults) (l .u) (l .inv) (omega arith)
-    (sparse-none (a .samples .now) (a .marks .now) (members (a .inverted) (l .u)) mask value (a .used) (l .u) (start t .pre .1 .1) (sym (c .before .has .ensures) ∙ w .0 .left)))))
+    (sparse-none (a .samples .now) (a .marks .now) (matches wordBits (members (a .turned) (l .u)) mask value) (a .used) (l .u) (start t .pre .1 .1) (sym (c .before .has .ensures) ∙ w .0 .left)))))
     (c .if1 .came)
 
 returns : tie.Need-returns Inv-loop μ-loop
 returns c =
     let a = c .before .before .before .before .before .before .args in
     let l = c .before .loop in
-    fold-end (admitted (a .masks .now) (a .values .now) (a .inverted) (a .samples .now) (a .marks .now)) (length (a .masks .now)) (l .faults) (l .u)
+    fold-end (admitted (a .masks .now) (a .values .now) (a .turned) (a .samples .now) (a .marks .now)) (length (a .masks .now)) (l .faults) (l .u)
     (l .inv) (omega arith)
 
 pub all-sparse-spec : {M : Type 1} → statement M

@@ -11,14 +11,15 @@ use Rattle.bits.specs.Word.{members}
 use Rattle.bits.proofs.Words.{zero-members}
 use Rattle.bits.proofs.Gathers.{gathers, gather-none, gather-more}
 use Rattle.session.specs.Limits.{wordBits}
-use Rattle.session.proofs.Admission.{accepts-inside}
+use Rattle.session.specs.Trigger.{matches}
+use Rattle.session.proofs.Admission.{matches-inside}
 use Rattle.section_tests.proofs.Unadmitted.{stray}
 use Rattle.section_tests.proofs.strays_turned.Statement.{statement}
 use Rattle.section_tests.proofs.strays_turned.Tie as tie
 
 abbrev Inv-loop : tie.InvT-loop
 Inv-loop samples marks turn mask value all₀ v₀ all v =
-    (v ≤ length marks) × ((b : Bool) → turn ≡ cond b (2 ^ 16 - 1) 0 → members all ≡ gathers v (stray samples marks b mask value))
+    (v ≤ length marks) × ((b : Bool) → turn ≡ cond b (2 ^ 16 - 1) 0 → members all ≡ gathers v (stray samples marks (matches wordBits b mask value)))
 
 abbrev μ-loop : tie.MeasureT-loop
 μ-loop samples marks turn mask value all₀ v₀ all v = length marks - v
@@ -26,7 +27,7 @@ abbrev μ-loop : tie.MeasureT-loop
 loop-holds : tie.Need-loop-holds Inv-loop μ-loop
 loop-holds c =
     let a = c .before .before .args in
-    (omega arith, λ b e. gather-none (stray (a .samples .now) (a .marks .now) b (a .mask) (a .value)))
+    (omega arith, λ b e. gather-none (stray (a .samples .now) (a .marks .now) (matches wordBits b (a .mask) (a .value))))
 
 mul-chosen-half : tie.Need-mul-chosen-half Inv-loop μ-loop
 mul-chosen-half c = search needs
@@ -64,12 +65,12 @@ loop-again c =
     let off = not (eqb (bitAnd sample (a .mask)) (a .value)) in (
       omega arith,
       λ b e.
-          gather-more (stray (a .samples .now) (a .marks .now) b (a .mask) (a .value)) (l .loop .all) (c .chosen-half .result) (l .loop .v) (l .loop .inv .1 b e)
+          gather-more (stray (a .samples .now) (a .marks .now) (matches wordBits b (a .mask) (a .value))) (l .loop .all) (c .chosen-half .result) (l .loop .v) (l .loop .inv .1 b e)
           (fun-ext
           (λ u.
           ap (λ (w : ℕ). members w u) (c .chosen-half .ensures b e)
           ∙ picked-members word (cond b (not off) off) u
-          ∙ ap (λ (x : Bool). members word u && x) (accepts-inside wordBits b (a .mask) (a .value) sample (s .pre .0 .1) (s .pre .1)))),
+          ∙ ap (λ (x : Bool). members word u && x) (matches-inside wordBits b (a .mask) (a .value) sample (s .pre .0 .1) (s .pre .1)))),
     )
 
 returns : tie.Need-returns Inv-loop μ-loop

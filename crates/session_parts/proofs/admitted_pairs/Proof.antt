@@ -11,8 +11,8 @@ masks-of-requires c κs = search needs
 values-of-requires : tie.Need-values-of-requires
 values-of-requires c κs = search needs
 
-inverted-of-requires : tie.Need-inverted-of-requires
-inverted-of-requires c κs = search needs
+turned-of-requires : tie.Need-turned-of-requires
+turned-of-requires c κs = search needs
 
 samples-of-requires : tie.Need-samples-of-requires
 samples-of-requires c κs = search needs
@@ -30,8 +30,8 @@ same-length c = search needs
 returns : tie.Need-returns
 returns c =
     let a = c .before .before .before .before in
-    pairs-admitted (c .before .before .before .before .before .before .before .before .before .before .args .session .now) _ _ _ _
-    (a .before .before .before .masks-of .ensures) (a .before .before .values-of .ensures) (a .before .inverted-of .ensures) (a .samples-of .ensures)
+    pairs-admitted (c .before .before .before .before .before .before .before .before .before .before .args .session .now) (a .before .turned-of .result)
+    (a .before .before .before .masks-of .ensures) (a .before .before .values-of .ensures) (a .samples-of .ensures) (a .before .turned-of .ensures)
     (c .before .before .admitted .ensures)
 
 pub admitted-pairs-spec : {M : Type 1} → statement M
@@ -40,7 +40,7 @@ admitted-pairs-spec =
     (tie.spec
     masks-of-requires
     values-of-requires
-    inverted-of-requires
+    turned-of-requires
     samples-of-requires
     admitted-requires
     same-length

@@ -16,20 +16,23 @@ use Rattle.trials.proofs.alone.Statement.{statement}
 use Rattle.trials.proofs.alone.Tie as tie
 
 abbrev Inv-loop : tie.InvT-loop
-Inv-loop session start word edges k₀ k = (k ≤ length edges) × ((h : inLayout session ≡ true) → aloneTo session h start word k ≡ true)
+Inv-loop session start word edges turned k₀ k = (k ≤ length edges) × ((h : inLayout session ≡ true) → aloneTo session h start word k ≡ true)
 
 abbrev μ-loop : tie.MeasureT-loop
-μ-loop session start word edges k₀ k = length edges - k
+μ-loop session start word edges turned k₀ k = length edges - k
 
 -- the function's entry, from the loop's head
 abbrev start : tie.At-loop Inv-loop μ-loop → tie.Start Inv-loop μ-loop
-start h = h .before .before .before
+start h = h .before .before .before .before
 
 edges-of-requires : tie.Need-edges-of-requires Inv-loop μ-loop
 edges-of-requires c κs = search needs
 
+turned-of-requires : tie.Need-turned-of-requires Inv-loop μ-loop
+turned-of-requires c κs = search needs
+
 loop-holds : tie.Need-loop-holds Inv-loop μ-loop
-loop-holds c = let a = c .before .before .args in (search needs, λ h. alone-none (a .session .now) h (a .start) (a .word))
+loop-holds c = let a = c .before .before .before .args in (search needs, λ h. alone-none (a .session .now) h (a .start) (a .word))
 
 mul-edge : tie.Need-mul-edge Inv-loop μ-loop
 mul-edge c = search needs
@@ -43,7 +46,7 @@ fresh-among-requires c κs =
     let s = start h in
     let xs = s .args .session .now in
     let k = h .loop .k in
-    (s .pre, omega (arith, held-sound xs (s .pre) (triggerOf xs .links) _ refl (h .before .edges-of .ensures) .starts k (c .before .before .loop-test .taken), layout-facts xs (s .pre) .counts .1))
+    (s .pre, h .before .turned-of .ensures, omega (arith, held-sound xs (s .pre) (triggerOf xs .links) _ refl (h .before .before .edges-of .ensures) .starts k (c .before .before .loop-test .taken), layout-facts xs (s .pre) .counts .1))
 
 returns : tie.Need-returns Inv-loop μ-loop
 returns c =
@@ -51,7 +54,7 @@ returns c =
     let s = start h in
     let a = s .args in
     let k = h .loop .k in
-    let is = h .before .edges-of .ensures in
+    let is = h .before .before .edges-of .ensures in
     alone-found (a .session .now) (s .pre) (a .start) (a .word) k (subst (λ (es : List ℕ). k < length es) is (c .before .before .before .before .loop-test .taken))
     (subst (λ (es : List ℕ). getD es k 0 % 512 ≡ a .start) is (c .before .before .if1 .taken))
     (subst (λ (es : List ℕ). freshAmong (a .session .now) (a .word) (getD es k 0 / 512) ≡ true) is (sym (c .before .fresh-among .ensures) ∙ c .if2 .taken))
@@ -68,7 +71,7 @@ loop-again c =
     let s = start h in
     let a = s .args in
     let k = h .loop .k in
-    let is = h .before .edges-of .ensures in (
+    let is = h .before .before .edges-of .ensures in (
       search needs,
       λ i.
           alone-more (a .session .now) i (a .start) (a .word) k (h .loop .inv .1 i)
@@ -84,7 +87,7 @@ returns-2 c =
     let h = c .before in
     let s = start h in
     let a = s .args in
-    alone-all (a .session .now) (s .pre) (a .start) (a .word) (h .loop .k) (omega (arith, h .loop .inv .0, c .loop-test .left) ∙ ap length (h .before .edges-of .ensures)) (h .loop .inv .1 (s .pre))
+    alone-all (a .session .now) (s .pre) (a .start) (a .word) (h .loop .k) (omega (arith, h .loop .inv .0, c .loop-test .left) ∙ ap length (h .before .before .edges-of .ensures)) (h .loop .inv .1 (s .pre))
 
 pub alone-spec : {M : Type 1} → statement M
 alone-spec =
@@ -93,6 +96,7 @@ alone-spec =
     Inv-loop
     μ-loop
     edges-of-requires
+    turned-of-requires
     loop-holds
     mul-edge
     shared-slice-read-edge

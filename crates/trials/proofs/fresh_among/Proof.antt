@@ -21,7 +21,7 @@ shared-slice-read-difference : tie.Need-shared-slice-read-difference
 shared-slice-read-difference c =
     let s = c .before .before .before .before in
     let xs = s .args .session .now in
-    rw (c .before .before .marks-of .ensures) (omega (arith, marks-long xs (s .pre .0), s .pre .1, layout-facts xs (s .pre .0) .graph .few))
+    rw (c .before .before .marks-of .ensures) (omega (arith, marks-long xs (s .pre .0), s .pre .2, layout-facts xs (s .pre .0) .graph .few))
 
 difference-requires : tie.Need-difference-requires
 difference-requires c κs = search needs
