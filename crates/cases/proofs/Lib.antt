@@ -2,3 +2,4 @@
 pub mod Predicted
 pub mod Full
 pub mod Worked
+pub mod Reopened

@@ -81,9 +81,9 @@ Fact c = (s : List ℕ) (room : List ℤ) (r : Answer) (s' : List ℕ) (room' : 
 
 -- of every row of a list
 infixr 40 _and_
-pub data Every (P : Case → Type 0) : List Case → Type 0 where
+pub data Every {A : Type 0} (P : A → Type 0) : List A → Type 0 where
   none : Every P []
-  _and_ : {c : Case} {cs : List Case} → P c → Every P cs → Every P (c ∷ cs)
+  _and_ : {c : A} {cs : List A} → P c → Every P cs → Every P (c ∷ cs)
 
 -- ---- the rows
 
@@ -182,14 +182,22 @@ turned =
     (edit insertion 0 1 ∷ edit insertion 1 0 ∷ edit deletion 0 1 ∷ [])
     (report false 2 [] ∷ report false 1 [] ∷ report true 2 (pos 1 ∷ pos 66 ∷ []) ∷ report false 2 (negℤ (pos 1) ∷ negℤ (pos 66) ∷ []) ∷ [])
 
--- "it then admits exactly the nodes that its plain form does not": with a mask of zero, none
+-- 02, Job 9, "A mask of zero admits every node, inverted or not": alone
 unfoldable pub blank : Case
 blank =
     row
     (given (0 ∷ []) (0xFF ∷ []) (0 ∷ []) 1 (0 ∷ 0xFFFF ∷ []) [] [])
-    (firing ∷ [])
-    (report false 0 [] ∷ says false ∷ [])
+    (standing 1 0 ∷ standing 1 1 ∷ firing ∷ [])
+    (report true 2 (pos 1 ∷ pos 65 ∷ []) ∷ says true ∷ says true ∷ says true ∷ [])
+
+-- and in a ring with a plain state
+unfoldable pub blankRing : Case
+blankRing =
+    row
+    (given (0 ∷ 0xFFFF ∷ []) (0 ∷ 0 ∷ []) (2 ∷ 1 ∷ []) 1 (0xA5 ∷ 0 ∷ []) [] [])
+    (edit insertion 0 1 ∷ edit insertion 1 0 ∷ edit deletion 0 1 ∷ [])
+    (report false 3 [] ∷ report false 1 [] ∷ report true 2 (pos 1 ∷ pos 66 ∷ []) ∷ report false 2 (negℤ (pos 1) ∷ negℤ (pos 66) ∷ []) ∷ [])
 
 -- the session and the cases that 01 marks, and those of the requests
 unfoldable pub cases : List Case
-cases = session ∷ alone ∷ nowhere ∷ loop ∷ ring ∷ spare ∷ unmasked ∷ full ∷ half ∷ hunted ∷ turned ∷ blank ∷ []
+cases = session ∷ alone ∷ nowhere ∷ loop ∷ ring ∷ spare ∷ unmasked ∷ full ∷ half ∷ hunted ∷ turned ∷ blank ∷ blankRing ∷ []

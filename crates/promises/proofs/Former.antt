@@ -2,7 +2,7 @@
 -- of it follows from the one equation of admission.
 use Prim.Native.Nat.{ℕ, _^_}
 use mathlib.Core.Path.{_≡_, ap}
-use mathlib.Core.Bool.{Bool, true, false, not, _&&_, _||_, and-true}
+use mathlib.Core.Bool.{true, false, not, _&&_, and-true}
 use mathlib.Core.List.{List}
 use lib.Dec.{leb, eqb}
 use lib.ListN.{length, getD}
@@ -13,7 +13,7 @@ use Rattle.simulation.specs.System.{closure}
 use Rattle.simulation.specs.Pattern.{Pattern, plain, paired, system, best}
 use Rattle.session.specs.Limits.{maxStates, wordBits, fixedSize}
 use Rattle.session.specs.Trigger.{Trigger, Graph, Marks, states, nodes, linked, edge, admits}
-use Rattle.session.specs.Former.{agreement, formerly, blankInverted}
+use Rattle.session.specs.Former.{agreement, formerly, marksFit, blankInverted}
 use Rattle.session.specs.Layout.{below, image, triggerOf, graphOf, marksOf, validTrigger, validGraph, validMarks, inLayout}
 use Rattle.session.proofs.Valid.{trigger-facts}
 use Rattle.session.proofs.Admission.{admits-agreement, admits-former}
@@ -45,9 +45,6 @@ module _ (t : Trigger) (a : Graph → Marks) where
   trials insertion g g' x y = size t g' (tried g' (once g) x y)
   trials deletion g g' x y = ceased t g' (once g) (once g')
 
-  abbrev marksFit : Graph → Marks → Bool
-  marksFit g m = allBelow (nodes g) (λ v. allBelow (states t) (λ u. not (m u v) || a g u v))
-
   -- all that a trigger has by these admissions
   pub record HasBy : Type 0 where
     pub marks : (g : Graph) → stands t g ≡ once g
@@ -57,7 +54,7 @@ module _ (t : Trigger) (a : Graph → Marks) where
         let m = marksOf xs in
         inLayout xs
         ≡ (leb fixedSize (length xs)
-        && ((validTrigger t && (validGraph g && marksFit g m)) && allBelow fixedSize (λ i. eqb (getD xs i 0) (getD (image t g m) i 0))))
+        && ((validTrigger t && (validGraph g && marksFit (a g) t g m)) && allBelow fixedSize (λ i. eqb (getD xs i 0) (getD (image t g m) i 0))))
     pub trial-sets : (g : Graph) (m : Marks) (x y : ℕ) → trialSet t g m x y ≡ tried g m x y
     pub loads : (g : Graph) → told t g
         ≡ record {
