@@ -1,7 +1,7 @@
 -- 02, Jobs 1 and 9, the other way round: a trigger whose admissions are what they were has the marks, firing, layout, trial sets and answers that it had. All
 -- of it follows from the one equation of admission.
 use Prim.Native.Nat.{ℕ, _^_}
-use mathlib.Core.Path.{_≡_, ap}
+use mathlib.Core.Path.{_≡_, ap, _∙_}
 use mathlib.Core.Bool.{true, false, not, _&&_, and-true}
 use mathlib.Core.List.{List}
 use lib.Dec.{leb, eqb}
@@ -18,15 +18,10 @@ use Rattle.session.specs.Layout.{below, image, triggerOf, graphOf, marksOf, val
 use Rattle.session.proofs.Valid.{trigger-facts}
 use Rattle.session.proofs.Admission.{admits-agreement, admits-former}
 use Rattle.listing.specs.Changes.{changes}
-use Rattle.promises.specs.Answers.{Summary}
 use Rattle.promises.specs.Standing.{stands, fires, size, trialSet}
-use Rattle.promises.specs.Rules.{Kind, insertion, deletion, edited}
+use Rattle.promises.specs.Rules.{Given, givenTrigger, givenGraph, Kind, insertion, deletion, edited}
 use Rattle.promises.specs.Promises.{loadList, loadTrials, ceased}
-use Rattle.promises.specs.Model.{editSummary}
-
--- what a load of them reports
-abbrev told : Trigger → Graph → Summary
-told t g = record { fires = fires t g (stands t g); trials = loadTrials t g; changes = length (loadList t g) }
+use Rattle.promises.specs.Model.{loadSummary, editSummary}
 
 module _ (t : Trigger) (a : Graph → Marks) where
   -- what is simulated, what stands and what is tried, where the states admit what `a` says
@@ -56,7 +51,9 @@ module _ (t : Trigger) (a : Graph → Marks) where
         ≡ (leb fixedSize (length xs)
         && ((validTrigger t && (validGraph g && marksFit (a g) t g m)) && allBelow fixedSize (λ i. eqb (getD xs i 0) (getD (image t g m) i 0))))
     pub trial-sets : (g : Graph) (m : Marks) (x y : ℕ) → trialSet t g m x y ≡ tried g m x y
-    pub loads : (g : Graph) → told t g
+    pub loads : (x : Given) → givenTrigger x ≡ t
+        → let g = givenGraph x in
+        loadSummary x
         ≡ record {
           fires = fires t g (once g);
           trials = size t g (paired (under g) (a g));
@@ -76,7 +73,7 @@ module _ (t : Trigger) (a : Graph → Marks) where
     firing = λ g. ap (fires t g) (stood g);
     layout = λ xs is. rw (is, same (graphOf xs));
     trial-sets = tries;
-    loads = λ g. rw (same g);
+    loads = loading;
     edits = reports;
   }
     where
@@ -91,6 +88,18 @@ module _ (t : Trigger) (a : Graph → Marks) where
           closure (system p) (paired p (λ u v. b u v && not (m u v)))
           (paired p (λ u v. eqb v x && anyBelow (states t) (λ u'. linked t u u' && b u' y))))
           (same g)
+
+      loading : (x : Given) → givenTrigger x ≡ t
+          → let g = givenGraph x in
+          loadSummary x
+          ≡ record {
+            fires = fires t g (once g);
+            trials = size t g (paired (under g) (a g));
+            changes = length (changes t g (λ u v. false) (once g));
+          }
+      loading x is =
+          let g = givenGraph x in
+          ap (λ (t : Trigger). record { fires = fires t g (stands t g); trials = loadTrials t g; changes = length (loadList t g) }) is ∙ rw (same g)
 
       reports : (g : Graph) (k : Kind) (x y : ℕ) → editSummary (record { trigger = t; graph = g }) k x y
           ≡ record {

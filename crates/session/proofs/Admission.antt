@@ -1,4 +1,5 @@
--- When a state admits a node: by one masked comparison of words, turned round where it is inverted; no mask, and what the mask leaves out.
+-- When a state admits a node: by one masked comparison of words, turned round where it is inverted and not blank; what it admitted formerly; what the mask
+-- leaves out.
 use Prim.Native.Nat.{ℕ, _^_, _<_}
 use mathlib.Core.Path.{_≡_, refl, sym, ap, _∙_, fun-ext}
 use mathlib.Core.Logic.{⊎-elim}
