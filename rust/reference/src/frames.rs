@@ -185,6 +185,8 @@ mod tests {
         // State One is anything but 0001; the state after it is 0001.
         let input = b"07FFFF00010000\n01FFFF00010000\n020001\n020002\n03\n07FFFF00010000\n";
         assert_eq!(output(input), b"800100020002\n8100000002\n8100000041\n8F02\n");
+        // A mask of zero admits every node.
+        assert_eq!(output(b"070000FFFF0000\n020000\n02FFFF\n03\n"), b"800100020002\n8100000001\n8100000041\n");
         // A link to a state that is not there, and a 17th state of either kind.
         assert_eq!(output(b"07FFFF00010002\n03\n"), b"8F05\n");
         let states = "07000000000000\n01000000000000\n".repeat(9);

@@ -14,7 +14,11 @@ fn supported(trigger: &Trigger, graph: &Graph, relation: &Relation, state: usize
 
 /// The pairs that stand: from the admitted ones, unsupported ones are removed until none is left.
 pub fn standing(trigger: &Trigger, graph: &Graph) -> Relation {
-    let mut relation = admitted(trigger, graph);
+    supported_part(trigger, graph, admitted(trigger, graph))
+}
+
+/// What is left of a relation when unsupported pairs are removed until none is left.
+pub fn supported_part(trigger: &Trigger, graph: &Graph, mut relation: Relation) -> Relation {
     loop {
         let mut removed = false;
         for (state, node) in relation.places() {

@@ -11,7 +11,7 @@ pub struct State {
     pub value: u16,
     /// The states linked to.
     pub links: BTreeSet<usize>,
-    /// Whether it admits exactly the nodes that its plain form does not.
+    /// Whether it admits exactly the nodes that its plain form does not; a mask of zero admits every node all the same.
     pub inverted: bool,
 }
 
@@ -28,13 +28,17 @@ impl State {
         State { mask, value, links: bits(links).collect(), inverted }
     }
 
-    /// Whether the state admits a sample.
+    /// Whether the state admits a sample. A mask of zero admits every one, inverted or not.
     pub fn admits(&self, sample: u16) -> bool {
-        if self.inverted { !self.plain_admits(sample) } else { self.plain_admits(sample) }
+        match (self.mask, self.inverted) {
+            (0, _) => true,
+            (_, false) => self.agrees(sample),
+            (_, true) => !self.agrees(sample),
+        }
     }
 
     /// Whether value and sample agree in every bit that is 1 in the mask.
-    fn plain_admits(&self, sample: u16) -> bool {
+    fn agrees(&self, sample: u16) -> bool {
         (0..16).all(|bit| {
             let one = |word: u16| word >> bit & 1 == 1;
             !one(self.mask) || one(self.value) == one(sample)

@@ -1,5 +1,6 @@
 //! The fixed points held against their definitions, by trying every set of pairs: all triggers of two states, plain and
-//! inverted, all samples and all graphs of two nodes, each with every edge inserted or deleted.
+//! inverted, blank (of mask zero) and not, all samples and all graphs of two nodes, each with every edge inserted or
+//! deleted.
 
 use reference::rules::{ROOM, SESSION};
 use reference::standing::admitted;
@@ -17,10 +18,12 @@ fn bits(relation: &Relation) -> u32 {
     relation.pairs().map(|(state, node)| 1 << (node * STATES + state)).sum()
 }
 
-/// The admitted pairs: a plain state wants its own bit of the sample, an inverted one wants it to be missing.
+/// The admitted pairs: a plain state wants its own bit of the sample, an inverted one wants it to be missing, and a blank
+/// one, inverted or not, wants nothing.
 fn admissions(trigger: &Trigger, graph: &Graph) -> Relation {
     let one = |state: usize, node: usize| graph.samples[node] >> state & 1 == 1;
-    Relation::of(STATES, NODES, |state, node| one(state, node) ^ trigger.states[state].inverted)
+    let wanted = |state: usize, node: usize| one(state, node) ^ trigger.states[state].inverted;
+    Relation::of(STATES, NODES, |state, node| trigger.states[state].mask == 0 || wanted(state, node))
 }
 
 /// Whether each pair is admitted, and each link of its state is carried by an edge into the set.
@@ -75,12 +78,12 @@ fn has_chain(trigger: &Trigger, graph: &Graph, changed: &Relation, pair: (usize,
     false
 }
 
-/// The book of a load: two bits of links for each state, two bits of each sample, a set of edges and one of inverted
-/// states.
-fn book(links: u32, samples: u32, edges: u32, inverted: u32) -> Book {
+/// The book of a load: two bits of links for each state, two bits of each sample, a set of edges, one of inverted and
+/// one of blank states.
+fn book(links: u32, samples: u32, edges: u32, inverted: u32, blank: u16) -> Book {
     let held: Vec<u32> = (0..4).filter(|edge| edges >> edge & 1 == 1).collect();
     let given = Given {
-        masks: &[1, 2],
+        masks: &[1 & !blank, 2 & !blank],
         values: &[1, 2],
         links: &[links & 3, links >> 2],
         inverted,
@@ -93,9 +96,10 @@ fn book(links: u32, samples: u32, edges: u32, inverted: u32) -> Book {
 
 #[test]
 fn standing_trials_and_chains() {
-    for case in 0..1u32 << 14 {
-        let (links, samples, edges, inverted) = (case & 15, case >> 4 & 15, case >> 8 & 15, case >> 12);
-        let before = book(links, samples, edges, inverted);
+    for case in 0..1u32 << 16 {
+        let (links, samples, edges) = (case & 15, case >> 4 & 15, case >> 8 & 15);
+        let (inverted, blank) = (case >> 12 & 3, (case >> 14) as u16);
+        let before = book(links, samples, edges, inverted, blank);
         assert_eq!(admitted(&before.trigger, &before.graph), admissions(&before.trigger, &before.graph), "case {case}");
         let stood = bits(&before.standing);
         assert_eq!(stood, union_of_simulations(&before.trigger, &before.graph), "case {case}");
