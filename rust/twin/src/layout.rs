@@ -49,7 +49,7 @@ pub fn shape(session: &[u32]) -> Option<Shape> {
     let unused = unused.iter().fold(0, |all, words| all | union(words));
     let states = States::read(fixed, count);
     let marked = union(marks);
-    let sets = (union(links) | marked | states.inverted) & !states.all();
+    let sets = (union(links) | marked | fixed[INVERTED_AT]) & !states.all();
     let fault = words >> 16 | unused | sets | edge_fault(numbers, nodes);
     if fault != 0 || mark_fault(&states, samples, marks, marked) {
         return None;
@@ -85,7 +85,7 @@ fn mark_fault(states: &States, samples: &[u32], marks: &[u32], marked: u32) -> b
     }
     let nodes = samples.len().next_multiple_of(16);
     let (samples, marks) = (short(samples), short(marks));
-    // For each node the states with a mark anywhere whose plain form admits it.
+    // For each node the states with a mark anywhere whose value agrees with its sample.
     let mut agreeing = [0; NODES];
     let mut left = marked;
     while left != 0 {
@@ -104,8 +104,8 @@ fn mark_fault(states: &States, samples: &[u32], marks: &[u32], marked: u32) -> b
             *word |= bit(0) | bit(1) | bit(2) | bit(3);
         }
     }
-    // Inverted states admit where they do not agree: one operation for all states of a node.
-    let inverted = states.inverted as u16;
+    // Turned states admit where they do not agree: one operation for all states of a node.
+    let turned = states.turned as u16;
     let words = marks[..nodes].iter().zip(&agreeing[..nodes]);
-    words.fold(0, |fault, (word, agreeing)| fault | word & !(agreeing ^ inverted)) != 0
+    words.fold(0, |fault, (word, agreeing)| fault | word & !(agreeing ^ turned)) != 0
 }

@@ -2,13 +2,14 @@
 
 use crate::layout::{INVERTED_AT, LINKS_AT, MASKS_AT, SESSION, STATES, VALUES_AT};
 
-/// Masks, values and links, those of places past the count zero, and the set of inverted states.
+/// Masks, values and links, those of places past the count zero, and the set of turned states: those that admit where
+/// value and sample do not agree.
 pub struct States {
     pub count: usize,
     pub masks: [u16; STATES],
     pub values: [u16; STATES],
     pub links: [u32; STATES],
-    pub inverted: u32,
+    pub turned: u32,
 }
 
 impl States {
@@ -20,7 +21,7 @@ impl States {
             masks: words(MASKS_AT),
             values: words(VALUES_AT),
             links: std::array::from_fn(|state| fixed[LINKS_AT + state]),
-            inverted: fixed[INVERTED_AT],
+            turned: turned(fixed),
         }
     }
 
@@ -32,13 +33,8 @@ impl States {
     /// The states that admit a sample.
     pub fn admitting(&self, sample: u32) -> u32 {
         let sample = sample as u16;
-        let bit = |state: usize| {
-            let agrees = (sample ^ self.values[state]) & self.masks[state] == 0;
-            if agrees { 1 << state } else { 0 }
-        };
-        let bits: [u16; STATES] = std::array::from_fn(bit);
-        let agreeing = bits.iter().fold(0, |all, bit| all | bit);
-        (u32::from(agreeing) ^ self.inverted) & self.all()
+        let agreeing = set(|state| (sample ^ self.values[state]) & self.masks[state] == 0);
+        (agreeing ^ self.turned) & self.all()
     }
 
     /// For each state the set of states with a link to it.
@@ -76,6 +72,19 @@ impl States {
         }
         targets
     }
+}
+
+/// The states for which a test holds.
+fn set(test: impl Fn(usize) -> bool) -> u32 {
+    let bits: [u16; STATES] = std::array::from_fn(|state| if test(state) { 1 << state } else { 0 });
+    bits.iter().fold(0, |all, bit| all | bit).into()
+}
+
+/// The turned states: the inverted ones without those of mask zero, which admit every node. Told once for all nodes.
+fn turned(fixed: &[u32; SESSION]) -> u32 {
+    let inverted = fixed[INVERTED_AT];
+    // The session's words are tested: a compiler that tests the short masks stores them piece by piece.
+    if inverted == 0 { 0 } else { inverted & set(|state| fixed[MASKS_AT + state] != 0) }
 }
 
 /// For each state the set of states with a link to it.
