@@ -57,20 +57,26 @@ impl Case {
         self.inverted >> state & 1 == 1
     }
 
+    /// Whether the state with this index is blank, that is of mask zero, and inverted.
+    pub fn is_blank_inverted(&self, state: usize) -> bool {
+        self.masks[state] == 0 && self.is_inverted(state)
+    }
+
     /// Takes these edges in ascending order.
     pub fn edges(&mut self, edges: &BTreeSet<(u32, u32)>) {
         (self.starts, self.ends) = edges.iter().copied().unzip();
     }
 
     /// A random case with so many states, nodes and edges; fewer edges where the nodes do not have so many. `kinds` is
-    /// the number of different samples: the fewer, the more pairs are admitted. Half of the cases have inverted states.
+    /// the number of different samples: the fewer, the more pairs are admitted. Half of the cases have inverted states, a
+    /// third of which is blank.
     pub fn random(random: &mut Random, states: usize, nodes: usize, edges: usize, kinds: usize) -> Case {
         let mut case = Case { inverted: some_inverted(random, states), ..Case::default() };
         for state in 0..states {
             let mut mask = *random.pick(&[0x0000, 0xFFFF, 0xFFFF, 0x0001, 0x0003, 0x8001]);
-            // Inverted, a mask of zero admits nothing, and no pair stands that needs it: seldom, so that edits change pairs.
-            if mask == 0 && case.is_inverted(state) && !random.once_in(6) {
-                mask = 0xFFFF;
+            // Blank and inverted is the one exception of admission: often, so that it is met in every kind of case.
+            if case.is_inverted(state) && random.once_in(5) {
+                mask = 0;
             }
             let mut value = random.below(kinds) as u16;
             if random.once_in(8) {
@@ -149,5 +155,26 @@ fn links(random: &mut Random, states: usize) -> u32 {
         4..=5 => one(random) | one(random),
         6 => one(random) | one(random) | one(random),
         _ => random.word() as u32 & ((1 << states) - 1),
+    }
+}
+
+#[cfg(test)]
+mod tests {
+    use super::*;
+
+    /// How many of 1,000 cases with so many states have one that is blank and inverted.
+    fn blank_inverted(states: usize) -> usize {
+        let case = |number: u64| Case::random(&mut Random::new(1, number), states, 2, 2, 3);
+        let has_one = |case: &Case| (0..states).any(|state| case.is_blank_inverted(state));
+        (0..1_000).map(case).filter(has_one).count()
+    }
+
+    /// Half of the cases invert, and a third of their inverted states is blank: one case in six with a single state, and
+    /// nearly every second one with sixteen.
+    #[test]
+    fn blank_inverted_states_are_drawn_often() {
+        let counts = [1, 3, 16].map(blank_inverted);
+        assert!(counts[0] > 120 && counts[1] > 200 && counts[2] > 400, "{counts:?}");
+        assert!(counts[2] < 600, "{counts:?}: other triggers are drawn as well");
     }
 }

@@ -2,7 +2,8 @@
 //!
 //! Where a damaged session is not in layout, every call is refused with 10. Where it is, it holds another trigger,
 //! graph or marks: then the questions read the marks held, and an edit does what is fixed of it for marks that may not be
-//! those of their graph.
+//! those of their graph. So it is with sessions saved while inverted states that are blank, that is of mask zero, admitted
+//! nothing.
 
 use comparison::random::seed;
 use comparison::subject::{accepted, answered, refused};
@@ -10,10 +11,11 @@ use comparison::{Case, Engine, Random, Subject, Twin};
 use reference::changes::changes;
 use reference::layout::{held, image};
 use reference::rules::{ROOM, SESSION, delete_rules, insert_rules, question_rules};
-use reference::standing::{admitted, fires, standing};
+use reference::standing::{admitted, fires, standing, supported_part};
 use reference::trials::trial_set;
 use reference::walk::walk_order;
 use reference::{Graph, Relation, Report, State, Trigger};
+use std::collections::BTreeSet;
 use trigger_engine::lent::Answer;
 
 type Held = (Trigger, Graph, Relation);
@@ -259,12 +261,13 @@ fn edges_and_counts_damaged() {
     }
 }
 
-/// A state turned round is not admitted any more where it had a mark, and is where it had none. With its marks gone, or
-/// put where it is admitted now, the session is in layout again.
+/// A state turned round is not admitted any more where it had a mark, and is where it had none; a blank one is admitted
+/// everywhere, as before. With its marks gone, or put where it is admitted now, the session is in layout again.
 #[test]
 fn inverted_word_damaged() {
     let seed = seed("inverted_word_damaged");
-    let (mut marked, mut unmarked, mut moved) = (0, 0, 0);
+    // States with a mark, blank ones with a mark, states without, and those that are not admitted somewhere when turned.
+    let mut counts = [0; 4];
     for number in 0..1_500 {
         let mut random = Random::new(seed, number);
         let (states, nodes) = (random.between(1, 16), *random.pick(&[1, 2, 7, 16, 40, 512]));
@@ -275,45 +278,165 @@ fn inverted_word_damaged() {
         let whole = loaded(&case);
         let state = random.below(states);
         let label = format!("seed {seed}, case {number}, state {state}");
-        let mut damaged = |change: &dyn Fn(&mut Vec<u32>)| {
+        // Whether the session is in layout with the state turned round and its marks at these nodes.
+        let mut turned = |marked: &dyn Fn(usize) -> bool| {
             let mut session = whole.clone();
             session[3] ^= 1 << state;
-            change(&mut session);
+            for node in 0..nodes {
+                session[2612 + node] &= !(1 << state);
+                session[2612 + node] |= u32::from(marked(node)) << state;
+            }
             let in_layout = all_calls(Engine, &session, &mut random, &label);
             assert_eq!(in_layout, all_calls(Twin, &session, &mut random, &label), "{label}");
             in_layout
         };
-        let has_mark = whole[2612..SESSION].iter().any(|word| word >> state & 1 == 1);
-        assert_eq!(damaged(&|_| ()), !has_mark, "{label}");
-        if has_mark {
-            marked += 1
-        } else {
-            unmarked += 1
-        }
-        assert!(
-            damaged(&|session| session[2612..SESSION].iter_mut().for_each(|word| *word &= !(1 << state))),
-            "{label}"
-        );
+        let marked = |node: usize| whole[2612 + node] >> state & 1 == 1;
+        let (has_mark, blank) = ((0..nodes).any(marked), case.masks[state] == 0);
+        assert_eq!(turned(&marked), !has_mark || blank, "{label}");
+        assert!(turned(&|_| false), "{label}");
         // Marks at every pair that is admitted now; with one more, at a pair that is not, out of layout again.
-        let turned = State::new(case.masks[state], case.values[state], 0, !case.is_inverted(state));
-        let admitted = |node: usize| turned.admits(case.samples[node]);
-        let put = |session: &mut Vec<u32>| {
-            for node in 0..nodes {
-                session[2612 + node] &= !(1 << state);
-                session[2612 + node] |= u32::from(admitted(node)) << state;
-            }
-        };
-        assert!(damaged(&put), "{label}");
-        if let Some(node) = (0..nodes).rev().find(|node| !admitted(*node)) {
-            moved += 1;
-            let one_more = |session: &mut Vec<u32>| {
-                put(session);
-                session[2612 + node] |= 1 << state;
-            };
-            assert!(!damaged(&one_more), "{label}");
+        let now = State::new(case.masks[state], case.values[state], 0, !case.is_inverted(state));
+        let admitted = |node: usize| now.admits(case.samples[node]);
+        assert!(turned(&admitted), "{label}");
+        let stray = (0..nodes).rev().find(|node| !admitted(*node));
+        if let Some(stray) = stray {
+            assert!(!turned(&|node| admitted(node) || node == stray), "{label}");
+        }
+        let kinds = [has_mark && !blank, has_mark && blank, !has_mark, stray.is_some()];
+        counts.iter_mut().zip(kinds).for_each(|(count, kind)| *count += usize::from(kind));
+    }
+    assert!(counts.iter().all(|count| *count > 100), "{counts:?}");
+}
+
+/// A session written word by word: two nodes, 0000 and 00FF, and one state without links, which is inverted, has this mask
+/// and the value 00FF.
+fn one_inverted_state(mask: u32, marks: [u32; 2]) -> Vec<u32> {
+    let mut session = vec![0; SESSION];
+    session[..5].copy_from_slice(&[1, 2, 0, 0b1, mask]);
+    session[20] = 0x00FF;
+    session[52..54].copy_from_slice(&[0x0000, 0x00FF]);
+    session[2612..2614].copy_from_slice(&marks);
+    session
+}
+
+/// A blank inverted state may have a mark at each node; with one bit in its mask, only where the sample differs in it.
+fn marks_at_one_inverted_state<S: Subject>(subject: S) {
+    let mut random = Random::new(3, 3);
+    for marks in [[0, 0], [0, 1], [1, 0], [1, 1]] {
+        let label = format!("marks {marks:?}");
+        let blank = one_inverted_state(0, marks);
+        assert_eq!(subject.matches(&blank, 1, 0), answered(Ok(marks[0] == 1)), "{label}");
+        assert_eq!(subject.matches(&blank, 1, 1), answered(Ok(marks[1] == 1)), "{label}");
+        assert_eq!(subject.fires(&blank), answered(Ok(marks != [0, 0])), "{label}");
+        assert!(all_calls(subject, &blank, &mut random, &label));
+        for bit in 0..8 {
+            let in_layout = marks[1] == 0;
+            let wanted = if in_layout { answered(Ok(marks[0] == 1)) } else { refused(10) };
+            assert_eq!(subject.fires(&one_inverted_state(1 << bit, marks)), wanted, "{label}, bit {bit}");
         }
     }
-    assert!(marked > 200 && unmarked > 200 && moved > 200, "{marked} marked, {unmarked} not, {moved} moved");
+    // The marks of the graph: an edge changes none of them, for the state has no link.
+    let (mut session, mut room) = (one_inverted_state(0, [1, 1]), vec![7; ROOM]);
+    let unchanged = accepted(&Report { fires: true, trials: 0, changes: vec![] });
+    assert_eq!(subject.insert(&mut session, 0, 1, &mut room), unchanged);
+    assert_eq!(subject.delete(&mut session, 0, 1, &mut room), unchanged);
+    assert_eq!(session, one_inverted_state(0, [1, 1]));
+}
+
+#[test]
+fn marks_of_a_blank_inverted_state() {
+    marks_at_one_inverted_state(Engine);
+    marks_at_one_inverted_state(Twin);
+}
+
+/// State 1 is blank and inverted and linked to state 2; state 2 is 7 and linked to state 1; state 3 is 8 and has no link.
+/// Node 0 is 7, node 1 is 8, with an edge each way.
+fn blank_in_a_ring() -> Case {
+    let mut case = Case { samples: vec![7, 8], ..Case::default() };
+    case.inverted_state(0, 0x00FF, 0b010);
+    case.state(0xFFFF, 7, 0b001);
+    case.state(0xFFFF, 8, 0b000);
+    case.edges(&BTreeSet::from([(0, 1), (1, 0)]));
+    case
+}
+
+/// States 1 and 2 stand by each other, state 2 at node 0 and state 1 at node 1, state 3 by itself at node 1. While state 1
+/// admitted nothing, state 3 had the only mark: such a session is in layout, and a fresh load has the other marks too.
+fn saved_with_a_blank_inverted_state<S: Subject>(subject: S) {
+    let case = blank_in_a_ring();
+    let (mut fresh, mut room) = (vec![9; SESSION], vec![7; ROOM]);
+    let report = Report { fires: true, trials: 4, changes: vec![2, 65, 67] };
+    assert_eq!(subject.load(&mut fresh, &case, &mut room), accepted(&report));
+    assert_eq!(fresh[3..7], [0b001, 0x0000, 0xFFFF, 0xFFFF], "the inversion is held as given");
+    assert_eq!(fresh[2612..2614], [0b010, 0b101]);
+
+    let mut saved = fresh.clone();
+    saved[2612..2614].copy_from_slice(&[0b000, 0b100]);
+    for (state, node) in (1..=3).flat_map(|state| [(state, 0), (state, 1)]) {
+        assert_eq!(subject.matches(&saved, state, node), answered(Ok((state, node) == (3, 1))), "({state}, {node})");
+    }
+    assert_eq!(subject.fires(&saved), answered(Ok(false)));
+    assert_eq!(subject.order(&saved, &mut [0; 16]), Answer(3 << 40));
+    assert!(all_calls(subject, &saved, &mut Random::new(4, 4), "saved"));
+    let held = held(&saved);
+    for edge in [(0, 0), (0, 1), (1, 0), (1, 1)] {
+        let present = edge.0 != edge.1;
+        edit(subject, &saved, held.as_ref(), !present, edge, "saved");
+    }
+
+    assert_eq!(subject.load(&mut saved, &case, &mut room), accepted(&report));
+    assert_eq!(saved, fresh);
+}
+
+#[test]
+fn a_session_saved_with_a_blank_inverted_state() {
+    saved_with_a_blank_inverted_state(Engine);
+    saved_with_a_blank_inverted_state(Twin);
+}
+
+/// The marks of a graph while blank inverted states admitted nothing: without theirs, and without what stood only by them.
+fn former_marks(trigger: &Trigger, graph: &Graph) -> Relation {
+    let mut former = admitted(trigger, graph);
+    for (state, node) in former.places() {
+        let State { mask, inverted, .. } = trigger.states[state];
+        if mask == 0 && inverted {
+            former.remove(state, node);
+        }
+    }
+    supported_part(trigger, graph, former)
+}
+
+/// Each is in layout, and a fresh load of the same trigger and graph has the marks that it lacks.
+#[test]
+fn sessions_saved_with_blank_inverted_states() {
+    let seed = seed("sessions_saved_with_blank_inverted_states");
+    // Sessions with a mark less of a blank inverted state, and of another one.
+    let (mut own, mut others) = (0, 0);
+    for number in 0..3_000 {
+        let mut random = Random::new(seed, number);
+        let (states, nodes) = (random.between(1, 5), random.between(1, 10));
+        let edges = random.below(3 * nodes + 1);
+        let case = Case::random(&mut random, states, nodes, edges, 2);
+        let label = format!("seed {seed}, case {number}");
+        let fresh = loaded(&case);
+        let (trigger, graph, marks) = held(&fresh).expect("a load leaves a session in layout");
+        assert_eq!(marks, standing(&trigger, &graph), "{label}");
+
+        let former = former_marks(&trigger, &graph);
+        let mut saved = fresh.clone();
+        saved[..SESSION].copy_from_slice(&image(&trigger, &graph, &former));
+        assert!(all_calls(Engine, &saved, &mut random, &label), "{label}");
+        assert!(all_calls(Twin, &saved, &mut random, &label), "{label}");
+        let lacks = |blank: bool| {
+            let mut pairs = marks.pairs().filter(|(state, _)| case.is_blank_inverted(*state) == blank);
+            pairs.any(|(state, node)| !former.has(state, node))
+        };
+        own += usize::from(lacks(true));
+        others += usize::from(lacks(false));
+        assert_eq!(Engine.load(&mut saved, &case, &mut vec![0; ROOM]).rule(), 0, "{label}");
+        assert_eq!(saved, fresh, "{label}");
+    }
+    assert!(own > 300 && others > 100, "{own} lack a mark of a blank inverted state, {others} one of another state");
 }
 
 #[test]

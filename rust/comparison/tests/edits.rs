@@ -154,11 +154,13 @@ fn every_graph(states: usize, nodes: usize) {
     for links in 0..1u32 << (states * states) {
         for admission in 0..1u32 << (states * nodes) {
             // State s compares bit s alone; the sample of a node has the bits of the plain states that admit it, and of
-            // the inverted ones that do not.
+            // the inverted ones that do not. Where a state is to admit every node, half of the time its mask is zero.
             let mut case = Case { inverted: some_inverted(&mut random, states), ..Case::default() };
             for state in 0..states {
                 let word = links >> (state * states) & ((1 << states) - 1);
-                case.state(1 << state, 1 << state, word);
+                let everywhere = (0..nodes).all(|node| admission >> (node * states + state) & 1 == 1);
+                let mask = if everywhere && random.once_in(2) { 0 } else { 1 << state };
+                case.state(mask, 1 << state, word);
             }
             for node in 0..nodes {
                 let admitting = admission >> (node * states) & ((1 << states) - 1);
@@ -178,19 +180,20 @@ fn every_graph(states: usize, nodes: usize) {
     }
 }
 
-/// A chain into a node whose edge to itself comes and goes: every pair changes, and the list fills the whole room.
+/// A chain into a node whose edge to itself comes and goes: every pair changes, and the list fills the whole room. Masks
+/// of zero admit every node, inverted or not.
 #[test]
 fn chains_that_fill_the_change_room() {
     let nodes = 512;
-    for against in [false, true] {
+    for (against, inverted) in [(false, 0x0000), (true, 0x0000), (false, 0xFFFF), (true, 0xAAAA)] {
         let number = |place: u32| if against { nodes - 1 - place } else { place };
-        let mut case = Case { samples: vec![0; nodes as usize], ..Case::default() };
+        let mut case = Case { inverted, samples: vec![0; nodes as usize], ..Case::default() };
         for state in 0..16 {
             case.state(0, 0xFFFF, 1 << state);
         }
         case.edges(&(1..nodes).map(|place| (number(place - 1), number(place))).collect());
         let last = number(nodes - 1);
-        let label = format!("chain against the grain: {against}");
+        let label = format!("chain against the grain: {against}, inverted {inverted:#x}");
         let mut follower = Follower::load(Engine, &mut Random::new(1, 1), &label, &case);
         let report = follower.edit_in(Edit::Insert(last, last), 8192).unwrap();
         assert_eq!((report.fires, report.trials, report.changes.len()), (true, 8192, 8192), "{label}");

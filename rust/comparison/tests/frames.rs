@@ -50,7 +50,7 @@ fn session(random: &mut Random, sizes: &Sizes) -> Vec<u8> {
             _ => bit(random) | bit(random),
         }
     };
-    // Half of the sessions have inverted states.
+    // Half of the sessions have inverted states; a quarter of all states has mask zero.
     let inverts = random.once_in(2);
     let kind = |random: &mut Random| if inverts && random.once_in(2) { "07" } else { "01" };
     for _ in 0..sizes.states {

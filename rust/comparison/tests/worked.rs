@@ -90,14 +90,40 @@ fn an_inverted_state_in_a_ring() {
     assert_eq!(session.words()[3], 0b01);
 }
 
+/// The one exception: inverted or not, a mask of zero admits every node. The session holds the inversion as it was given.
 #[test]
-fn an_inverted_mask_of_zero_admits_nothing() {
+fn an_inverted_mask_of_zero_admits_every_node() {
     let mut session = Session::new();
+    let samples = [0x0000, 0x00FF, 0xFFFF];
+    let report = told(session.load(&[inverted(0, 0x00FF, 0)], &samples, &[]));
+    assert_eq!(report, Ok((true, 3, vec![begins(1, 0), begins(1, 1), begins(1, 2)])));
+    assert_eq!(session.words()[3..5], [0b1, 0x0000]);
+    assert_eq!(session.matches(1, 1), Ok(true));
+    // With one bit in the mask it is no exception: words that have bit 0, as the value has, are not admitted.
+    let report = told(session.load(&[inverted(1, 0x00FF, 0)], &samples, &[]));
+    assert_eq!(report, Ok((true, 1, vec![begins(1, 0)])));
+
+    // A state without links stands at once, and a state that is linked to it where an edge leads on.
     let states = [inverted(0, 0x00FF, 0), state(0, 0, 0b01)];
-    let report = told(session.load(&states, &[0x0000, 0x00FF], &[(0, 1)]));
-    assert_eq!(report, Ok((false, 2, vec![])));
-    // Its link goes to a state that admits nothing: no pair is tried.
-    assert_eq!(told(session.insert(1, 0)), Ok((false, 0, vec![])));
+    let report = told(session.load(&states, &samples[..2], &[(0, 1)]));
+    assert_eq!(report, Ok((true, 4, vec![begins(1, 0), begins(2, 0), begins(1, 1)])));
+    assert_eq!(told(session.insert(1, 0)), Ok((true, 1, vec![begins(2, 1)])));
+    assert_eq!(session.words()[3..6], [0b01, 0x0000, 0x0000]);
+}
+
+/// Any word and the idle word in turns. State 1, blank and inverted, admits the idle word too.
+#[test]
+fn a_blank_inverted_state_in_a_ring() {
+    let mut session = Session::new();
+    let states = [inverted(0, 0, 0b10), state(0xFFFF, 0, 0b01)];
+    assert_eq!(told(session.load(&states, &[0, 5], &[])), Ok((false, 3, vec![])));
+    assert_eq!(told(session.insert(0, 1)), Ok((false, 1, vec![])));
+    assert_eq!(told(session.insert(1, 0)), Ok((true, 2, vec![begins(2, 0), begins(1, 1)])));
+    // A loop at the idle word carries both states.
+    assert_eq!(told(session.insert(0, 0)), Ok((true, 1, vec![begins(1, 0)])));
+    assert_eq!(told(session.delete(0, 1)), Ok((true, 0, vec![])));
+    assert_eq!(told(session.delete(0, 0)), Ok((false, 3, vec![ceases(1, 0), ceases(2, 0), ceases(1, 1)])));
+    assert_eq!(session.words()[3..6], [0b01, 0x0000, 0xFFFF]);
 }
 
 #[test]
