@@ -2,9 +2,9 @@
 
    A trigger has 1 to 16 states, numbered from 1. A state has a mask, a value and a set of links to states (bit i for state i + 1), and is plain or
    inverted. A graph has up to 512 nodes, numbered from 0, each with a sample of 16 bits, and up to 2,048 edges. A plain state admits a node when value
-   and sample agree in every bit of the mask; an inverted state admits exactly the nodes that its plain form does not, so with a mask of zero it admits
-   none. The pairs (state, node) that stand are those of the greatest simulation: the state admits the node, and each link of the state is carried by an
-   edge of the node to a node at which the link's state stands. The trigger fires when every state stands at some node.
+   and sample agree in every bit of the mask; an inverted state admits exactly the nodes that its plain form does not, with one exception: a mask of zero
+   admits every node, inverted or not. The pairs (state, node) that stand are those of the greatest simulation: the state admits the node, and each link of
+   the state is carried by an edge of the node to a node at which the link's state stands. The trigger fires when every state stands at some node.
 
    All memory is the caller's. Every list is a pointer and a number of places. What is asked of a caller, as of any function of C that takes memory:
    - a pointer is not null and is aligned for its type, and the memory has the places told; a list of no places has such a pointer too;
@@ -163,7 +163,8 @@ size_t trigger_session_words(void);
 size_t trigger_change_places(void);
 
 /* Loads a trigger and a graph, a list for each field: the masks, values and links of the states, the samples of the nodes, the starts and ends of the
-   edges; and the set of the inverted states, bit i for state i + 1, 0 where all are plain. Rules 3 to 9.
+   edges; and the set of the inverted states, bit i for state i + 1, 0 where all are plain. The session holds the set as it is given, states of mask zero
+   included. Rules 3 to 9.
    Accepted: the session holds exactly this trigger and graph, and marks at exactly the pairs that stand, whatever it held before; its unused places
    are zero and words past its 3,124 are as before. The changes are all standing pairs, ascending by size, at the front, and the places after them are
    as before. The answer tells whether the trigger fires, the number of admitted pairs as the trial count, and the number of changes. */

@@ -1,5 +1,6 @@
-/* The session of the engine's description, played through the C interface, and one with an inverted state. Standard output is compared with session.expected; that each call leaves alone
-   what it is to leave alone is tested here, and a breach is written as a line of its own. */
+/* The session of the engine's description, played through the C interface, one with an inverted state, and one with an inverted state of mask zero.
+   Standard output is compared with session.expected; that each call leaves alone what it is to leave alone is tested here, and a breach is written as a
+   line of its own. */
 #include "trigger_engine.h"
 
 #include <stdio.h>
@@ -114,24 +115,26 @@ static void order(const char *call, size_t room)
     end(answer, 0, 1);
 }
 
-int main(void)
+/* Two states that are linked to each other, and nodes without edges. */
+static void load(const char *call, const uint16_t *masks, const uint16_t *values, uint32_t inverted, const uint16_t *samples, size_t nodes)
 {
-    const uint16_t masks[] = {0xFFFF, 0xFFFF};
-    const uint16_t values[] = {0x0001, 0x0002};
-    const uint32_t links[] = {0x0002, 0x0001};
-    const uint16_t samples[] = {0x0001, 0x0002};
-    const uint32_t no_edges[] = {0};
+    static const uint32_t links[] = {0x0002, 0x0001};
+    static const uint32_t no_edges[] = {0};
+    begin();
+    report(call, trigger_load(session, words, masks, 2, values, 2, links, 2, inverted, samples, nodes, no_edges, 0, no_edges, 0, changes, places));
+}
 
-    memset(session, PATTERN, sizeof session);
-    printf("words %zu, places %zu\n", trigger_session_words(), trigger_change_places());
-    expect(trigger_session_words() == TRIGGER_SESSION_WORDS, "the header has another number of words");
-    expect(trigger_change_places() == TRIGGER_CHANGE_PLACES, "the header has another number of places");
+static const uint16_t all_bits[] = {0xFFFF, 0xFFFF};
+
+static void play_the_description(void)
+{
+    const uint16_t values[] = {0x0001, 0x0002};
+    const uint16_t samples[] = {0x0001, 0x0002};
 
     begin();
     question("fires before the load", trigger_fires(session, words));
 
-    begin();
-    report("load", trigger_load(session, words, masks, 2, values, 2, links, 2, 0, samples, 2, no_edges, 0, no_edges, 0, changes, places));
+    load("load", all_bits, values, 0, samples, 2);
 
     insert("insert 0 1", 0, 1, places);
     insert("insert 1 0", 1, 0, places);
@@ -153,19 +156,40 @@ int main(void)
 
     order("order into 15 places", TRIGGER_ORDER_PLACES - 1);
     order("order", sizeof states);
+}
 
-    /* state 1 is anything but the idle word, state 2 is the idle word */
+static void play_inverted_states(void)
+{
     const uint16_t idle[] = {0x0000, 0x0000};
     const uint16_t words_seen[] = {0x0000, 0x00A5, 0x0001};
-    begin();
-    report("load of an inverted state that is not there",
-           trigger_load(session, words, masks, 2, idle, 2, links, 2, 4, words_seen, 3, no_edges, 0, no_edges, 0, changes, places));
-    begin();
-    report("load of an inverted state",
-           trigger_load(session, words, masks, 2, idle, 2, links, 2, 1, words_seen, 3, no_edges, 0, no_edges, 0, changes, places));
+
+    /* state 1 is anything but the idle word, state 2 is the idle word */
+    load("load of an inverted state that is not there", all_bits, idle, 4, words_seen, 3);
+    load("load of an inverted state", all_bits, idle, 1, words_seen, 3);
     insert("insert 0 1", 0, 1, places);
     insert("insert 1 0", 1, 0, places);
     insert("insert 2 0", 2, 0, places);
     delete_edge("delete 0 1", 0, 1);
+
+    /* state 1 has a mask of zero and admits every node, the idle word too, though it is inverted */
+    const uint16_t blank[] = {0x0000, 0xFFFF};
+    load("load of an inverted state of mask zero", blank, idle, 1, words_seen, 3);
+    expect(session[3] == 1, "the session does not hold the inversion as it was given");
+    insert("insert 0 0", 0, 0, places);
+    insert("insert 1 0", 1, 0, places);
+    begin();
+    question("state 1 at node 0", trigger_matches(session, words, 1, 0));
+    delete_edge("delete 0 0", 0, 0);
+}
+
+int main(void)
+{
+    memset(session, PATTERN, sizeof session);
+    printf("words %zu, places %zu\n", trigger_session_words(), trigger_change_places());
+    expect(trigger_session_words() == TRIGGER_SESSION_WORDS, "the header has another number of words");
+    expect(trigger_change_places() == TRIGGER_CHANGE_PLACES, "the header has another number of places");
+
+    play_the_description();
+    play_inverted_states();
     return 0;
 }

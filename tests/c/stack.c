@@ -204,7 +204,7 @@ static trigger_answer accepted(int yes, uint32_t trials, uint32_t count)
     return (trigger_answer)yes << 8 | (trigger_answer)trials << 16 | (trigger_answer)count << 40;
 }
 
-/* States that admit every node, whose samples are all zero: with a mask of zero, or inverted with another value. */
+/* States that admit every node, whose samples are all zero: with a mask of zero, inverted or not, or inverted with another value. */
 enum links_kind { UNLINKED, CHAIN, RING, ALL };
 
 static void give_inverted(uint32_t set)
@@ -215,6 +215,12 @@ static void give_inverted(uint32_t set)
         masks[i] = turned ? 0xFFFF : 0;
         values[i] = turned ? 0x5A00 : 0;
     }
+}
+
+static void give_blank_inverted(uint32_t set)
+{
+    give_inverted(0);
+    inverted = set;
 }
 
 static void give_states(size_t count, enum links_kind kind)
@@ -281,6 +287,8 @@ static void measure_loads(void)
     measure(&load, "the same, every other state inverted", accepted(1, 8192, 8192));
     give_inverted(0xFFFF);
     measure(&load, "the same, all states inverted", accepted(1, 8192, 8192));
+    give_blank_inverted(0xFFFF);
+    measure(&load, "the same, all states inverted and of mask zero", accepted(1, 8192, 8192));
     inverted = 0x10000;
     measure(&load, "the same, refused for an inverted state that is not there", TRIGGER_STATES_WRONG);
     give_states(16, ALL);
@@ -311,6 +319,11 @@ static void measure_edits(void)
     measure(&insert, "the same ring closed, every other state inverted", accepted(1, 8192, 8192));
     edit_given(trigger_insert, 511, 0);
     measure(&delete_edge, "the same ring opened, every other state inverted", accepted(0, 8192, 8192));
+    give_blank_inverted(0xAAAA);
+    give_session();
+    measure(&insert, "the same ring closed, every other state inverted and of mask zero", accepted(1, 8192, 8192));
+    edit_given(trigger_insert, 511, 0);
+    measure(&delete_edge, "the same ring opened, every other state inverted and of mask zero", accepted(0, 8192, 8192));
     give_inverted(0);
 
     give_nodes(512, 4, 0);
@@ -386,6 +399,11 @@ static void measure_questions(void)
     measure(&matches, "full session, every other state inverted, yes", accepted(1, 0, 0));
     measure(&fires, "full session, every other state inverted, yes", accepted(1, 0, 0));
     measure(&ordering, "full session, every other state inverted", accepted(0, 0, 16));
+    give_blank_inverted(0xAAAA);
+    give_session();
+    measure(&matches, "full session, every other state inverted and of mask zero, yes", accepted(1, 0, 0));
+    measure(&fires, "full session, every other state inverted and of mask zero, yes", accepted(1, 0, 0));
+    measure(&ordering, "full session, every other state inverted and of mask zero", accepted(0, 0, 16));
 
     give_states(16, CHAIN);
     give_session();

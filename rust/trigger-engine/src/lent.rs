@@ -19,6 +19,11 @@
 //! let answer = lent::load(&mut session, &load, &mut changes);
 //! assert_eq!(changes[..answer.changes()], [65]);
 //!
+//! // A mask of zero admits every node, inverted or not; the session holds the inversion as it was given.
+//! let answer = lent::load(&mut session, &Load { masks: &[0], ..load }, &mut changes);
+//! assert_eq!(changes[..answer.changes()], [1, 65]);
+//! assert_eq!(session[3], 1);
+//!
 //! // There is no second state to invert.
 //! assert_eq!(lent::load(&mut session, &Load { inverted: 0b10, ..load }, &mut changes).rule(), 4);
 //! assert_eq!(lent::fires(&session[1..]).rule(), 3);
@@ -36,7 +41,8 @@ pub struct Load<'a> {
     pub values: &'a [u16],
     /// The links of each state, bit 0 for State One.
     pub links: &'a [u32],
-    /// The inverted states, bit 0 for State One. A bit of a state that is not there is refused with rule 4.
+    /// The inverted states, bit 0 for State One. A bit of a state that is not there is refused with rule 4; that of a state
+    /// of mask zero is held, and the state admits every node all the same.
     pub inverted: u32,
     /// The sample of each node.
     pub samples: &'a [u16],

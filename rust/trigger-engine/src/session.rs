@@ -7,13 +7,14 @@ use crate::rule::Rule;
 /// A state of a trigger.
 #[derive(Clone, Copy, Debug, PartialEq, Eq)]
 pub struct State {
-    /// The bits of a sample that are compared. A mask of zero admits every node; inverted, it admits none.
+    /// The bits of a sample that are compared. A mask of zero admits every node, inverted or not.
     pub mask: u16,
     /// What they are compared with; bits outside the mask are ignored.
     pub value: u16,
     /// The states linked to, bit 0 for State One.
     pub links: u32,
-    /// Whether the state is inverted: it then admits exactly the nodes that it would not admit otherwise.
+    /// Whether the state is inverted: it then admits exactly the nodes that it would not admit otherwise. A mask of zero
+    /// is the one exception.
     pub inverted: bool,
 }
 
@@ -84,6 +85,10 @@ impl Session {
     /// let report = session.load(&[busy], &[0x0000, 0x00A5], &[])?;
     /// let changes: Vec<Change> = report.changes().collect();
     /// assert_eq!(changes, [Change { state: 1, node: 1, begins: true }]);
+    ///
+    /// // A mask of zero hunts for nothing: it admits every node, inverted or not.
+    /// let report = session.load(&[State { mask: 0, ..busy }], &[0x0000, 0x00A5], &[])?;
+    /// assert_eq!(report.changes().len(), 2);
     /// # Ok::<(), Rule>(())
     /// ```
     pub fn load(&mut self, states: &[State], samples: &[u16], edges: &[(u32, u32)]) -> Result<Report<'_>, Rule> {
