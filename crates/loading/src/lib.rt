@@ -17,6 +17,7 @@ use session_parts::admitted_pairs;
 use session_parts::edges_of;
 use session_parts::links_of;
 use session_parts::store_marks;
+use session_parts::turned_of;
 use worklist::WAITING_WORDS;
 
 // Puts the greatest simulation of what the session holds into a table that is zero; how many pairs are admitted.
@@ -25,7 +26,7 @@ pub fn solve(session: &[u32], table: &mut [u32]) -> u32
     ensures { λ r. ⌜ Solved (now (session .entry)) r (now (table .exit)) ⌝ }
 {
     let nodes = session[1] as usize;
-    let trials = admitted_pairs(session, table);
+    let trials = admitted_pairs(session, turned_of(session), table);
     let mut waiting = [4294967295u32; WAITING_WORDS];
     let settled = [0u32; session::MAX_NODES];
     refine_indexed(

@@ -75,7 +75,7 @@ pub fn marks_of(session: &[u32]) -> &[u32]
     &session[session::MARKS_AT..session::FIXED_SIZE]
 }
 
-// The states whose answer is turned round.
+// The states whose answer is turned round. They are asked for once, and handed to those who ask what is admitted, of one node or of all.
 pub fn turned_of(session: &[u32]) -> u32
     requires { ⌜ inLayout (now session) ≡ true ⌝ }
     ensures { λ r. ⌜ members r ≡ turnedIn (now (session .entry)) ⌝ }
@@ -84,20 +84,20 @@ pub fn turned_of(session: &[u32]) -> u32
 }
 
 // Fills a table that is zero with the admitted pairs; how many they are.
-pub fn admitted_pairs(session: &[u32], table: &mut [u32]) -> u32
-    requires { ⌜ (inLayout (now session) ≡ true) × (length (now table) ≡ maxNodes) × ((v : ℕ) → getD (now table) v 0 ≡ 0) ⌝ }
+pub fn admitted_pairs(session: &[u32], turned: u32, table: &mut [u32]) -> u32
+    requires { ⌜ (inLayout (now session) ≡ true) × (members turned ≡ turnedIn (now session)) × (length (now table) ≡ maxNodes) × ((v : ℕ) → getD (now table) v 0 ≡ 0) ⌝ }
     ensures { λ r. ⌜ AdmittedPairs (now (session .entry)) r (now (table .exit)) ⌝ }
 {
     admitted(
         masks_of(session),
         values_of(session),
-        turned_of(session),
+        turned,
         samples_of(session),
         table,
     )
 }
 
-// The states that admit a node. Those turned round are handed in, since a caller asks for many nodes.
+// The states that admit a node.
 pub fn admitting(session: &[u32], turned: u32, node: u32) -> u32
     requires { ⌜ (inLayout (now session) ≡ true) × (members turned ≡ turnedIn (now session)) × (node < nodes (graphOf (now session))) ⌝ }
     ensures { λ r. ⌜ members r ≡ admittedAt (now (session .entry)) node ⌝ }

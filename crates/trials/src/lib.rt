@@ -53,7 +53,7 @@ pub fn fresh_pairs(session: &[u32], table: &mut [u32])
     requires { ⌜ (inLayout (now session) ≡ true) × (length (now table) ≡ maxNodes) × ((v : ℕ) → getD (now table) v 0 ≡ 0) ⌝ }
     ensures { λ r. ⌜ Holds (now (session .entry)) (freshPairs (now (session .entry))) (now (table .exit)) ⌝ }
 {
-    admitted_pairs(session, table);
+    admitted_pairs(session, turned_of(session), table);
     take_away(table, marks_of(session));
 }
 

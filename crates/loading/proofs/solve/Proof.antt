@@ -23,6 +23,9 @@ shared-slice-read-nodes c = omega (arith, bounded c)
 cast-nodes : tie.Need-cast-nodes
 cast-nodes c = omega (arith, bounded c)
 
+turned-of-requires : tie.Need-turned-of-requires
+turned-of-requires c κs = search needs
+
 admitted-pairs-requires : tie.Need-admitted-pairs-requires
 admitted-pairs-requires c κs = search needs
 
@@ -41,7 +44,7 @@ slice-aggregate-refine-indexed-2 c = search needs
 refine-indexed-requires : tie.Need-refine-indexed-requires
 refine-indexed-requires c κs =
     let p = c .before .before .before .before .before .before .before in
-    let s = start (p .before .before) in
+    let s = start (p .before .before .before) in
     let xs = s .args .session .now in
     let a = p .admitted-pairs .ensures in (
       (refl, a .long, refl),
@@ -58,7 +61,7 @@ returns : tie.Need-returns
 returns c =
     let e = c .before .before .before .before .before .before .before in
     let p = e .before .before .before .before in
-    let s = start (p .before .before) in
+    let s = start (p .before .before .before) in
     held-solved (s .args .session .now) (s .pre .0) _ _ (p .admitted-pairs .ensures) _ _ _ _ _ (e .before .links-of .ensures) (e .edges-of .ensures)
     (zeros maxNodes) all-wait (c .before .before .before .refine-indexed .ensures)
 
@@ -68,6 +71,7 @@ solve-spec =
     (tie.spec
     shared-slice-read-nodes
     cast-nodes
+    turned-of-requires
     admitted-pairs-requires
     links-of-requires
     edges-of-requires

@@ -11,28 +11,25 @@ masks-of-requires c κs = search needs
 values-of-requires : tie.Need-values-of-requires
 values-of-requires c κs = search needs
 
-turned-of-requires : tie.Need-turned-of-requires
-turned-of-requires c κs = search needs
-
 samples-of-requires : tie.Need-samples-of-requires
 samples-of-requires c κs = search needs
 
 admitted-requires : tie.Need-admitted-requires
 admitted-requires c κs =
-    let s = c .before .before .before .before .before .before .before in
+    let s = c .before .before .before .before .before .before in
     let f = layout-facts (s .args .session .now) (s .pre .0) in
-    rw (c .before .before .before .before .masks-of .ensures, c .before .before .before .values-of .ensures, c .before .samples-of .ensures)
-    ((f .trigger .values, f .trigger .few, f .graph .few, s .pre .1), (f .trigger .masks-fit, s .pre .2))
+    rw (c .before .before .before .masks-of .ensures, c .before .before .values-of .ensures, c .before .samples-of .ensures)
+    ((f .trigger .values, f .trigger .few, f .graph .few, s .pre .2), (f .trigger .masks-fit, s .pre .3))
 
 same-length : tie.Need-same-length
 same-length c = search needs
 
 returns : tie.Need-returns
 returns c =
+    let s = c .before .before .before .before .before .before .before .before .before in
     let a = c .before .before .before .before in
-    pairs-admitted (c .before .before .before .before .before .before .before .before .before .before .args .session .now) (a .before .turned-of .result)
-    (a .before .before .before .masks-of .ensures) (a .before .before .values-of .ensures) (a .samples-of .ensures) (a .before .turned-of .ensures)
-    (c .before .before .admitted .ensures)
+    pairs-admitted (s .args .session .now) (s .args .turned) (a .before .before .masks-of .ensures) (a .before .values-of .ensures) (a .samples-of .ensures)
+    (s .pre .1) (c .before .before .admitted .ensures)
 
 pub admitted-pairs-spec : {M : Type 1} → statement M
 admitted-pairs-spec =
@@ -40,7 +37,6 @@ admitted-pairs-spec =
     (tie.spec
     masks-of-requires
     values-of-requires
-    turned-of-requires
     samples-of-requires
     admitted-requires
     same-length
