@@ -18,6 +18,7 @@ use Rattle.session.specs.Layout.{below, image, triggerOf, graphOf, marksOf, val
 use Rattle.session.proofs.Valid.{trigger-facts}
 use Rattle.session.proofs.Admission.{admits-agreement, admits-former}
 use Rattle.listing.specs.Changes.{changes}
+use Rattle.promises.specs.Answers.{Summary}
 use Rattle.promises.specs.Standing.{stands, fires, size, trialSet}
 use Rattle.promises.specs.Rules.{Given, givenTrigger, givenGraph, Kind, insertion, deletion, edited}
 use Rattle.promises.specs.Promises.{loadList, loadTrials, ceased}
@@ -40,6 +41,23 @@ module _ (t : Trigger) (a : Graph → Marks) where
   trials insertion g g' x y = size t g' (tried g' (once g) x y)
   trials deletion g g' x y = ceased t g' (once g) (once g')
 
+  -- what a load of the graph reports, and an edit
+  abbrev loadBy : Graph → Summary
+  loadBy g = record {
+    fires = fires t g (once g);
+    trials = size t g (paired (under g) (a g));
+    changes = length (changes t g (λ u v. false) (once g));
+  }
+
+  abbrev editBy : Graph → Kind → ℕ → ℕ → Summary
+  editBy g k x y =
+      let g' = edited k g x y in
+      record {
+        fires = fires t g' (once g');
+        trials = trials k g g' x y;
+        changes = length (changes t g' (once g) (once g'));
+      }
+
   -- all that a trigger has by these admissions
   pub record HasBy : Type 0 where
     pub marks : (g : Graph) → stands t g ≡ once g
@@ -51,20 +69,8 @@ module _ (t : Trigger) (a : Graph → Marks) where
         ≡ (leb fixedSize (length xs)
         && ((validTrigger t && (validGraph g && marksFit (a g) t g m)) && allBelow fixedSize (λ i. eqb (getD xs i 0) (getD (image t g m) i 0))))
     pub trial-sets : (g : Graph) (m : Marks) (x y : ℕ) → trialSet t g m x y ≡ tried g m x y
-    pub loads : (x : Given) → givenTrigger x ≡ t
-        → let g = givenGraph x in
-        loadSummary x
-        ≡ record {
-          fires = fires t g (once g);
-          trials = size t g (paired (under g) (a g));
-          changes = length (changes t g (λ u v. false) (once g));
-        }
-    pub edits : (g : Graph) (k : Kind) (x y : ℕ) → editSummary (record { trigger = t; graph = g }) k x y
-        ≡ record {
-          fires = fires t (edited k g x y) (once (edited k g x y));
-          trials = trials k g (edited k g x y) x y;
-          changes = length (changes t (edited k g x y) (once g) (once (edited k g x y)));
-        }
+    pub loads : (x : Given) → givenTrigger x ≡ t → loadSummary x ≡ loadBy (givenGraph x)
+    pub edits : (g : Graph) (k : Kind) (x y : ℕ) → editSummary (record { trigger = t; graph = g }) k x y ≡ editBy g k x y
 
   pub has-by : ((g : Graph) → admits t g ≡ a g) → HasBy
   unfolding stands validMarks inLayout trialSet
@@ -89,24 +95,12 @@ module _ (t : Trigger) (a : Graph → Marks) where
           (paired p (λ u v. eqb v x && anyBelow (states t) (λ u'. linked t u u' && b u' y))))
           (same g)
 
-      loading : (x : Given) → givenTrigger x ≡ t
-          → let g = givenGraph x in
-          loadSummary x
-          ≡ record {
-            fires = fires t g (once g);
-            trials = size t g (paired (under g) (a g));
-            changes = length (changes t g (λ u v. false) (once g));
-          }
+      loading : (x : Given) → givenTrigger x ≡ t → loadSummary x ≡ loadBy (givenGraph x)
       loading x is =
           let g = givenGraph x in
           ap (λ (t : Trigger). record { fires = fires t g (stands t g); trials = loadTrials t g; changes = length (loadList t g) }) is ∙ rw (same g)
 
-      reports : (g : Graph) (k : Kind) (x y : ℕ) → editSummary (record { trigger = t; graph = g }) k x y
-          ≡ record {
-            fires = fires t (edited k g x y) (once (edited k g x y));
-            trials = trials k g (edited k g x y) x y;
-            changes = length (changes t (edited k g x y) (once g) (once (edited k g x y)));
-          }
+      reports : (g : Graph) (k : Kind) (x y : ℕ) → editSummary (record { trigger = t; graph = g }) k x y ≡ editBy g k x y
       reports g insertion x y = let g' = edited insertion g x y in rw (stood g', stood g, tries g' (once g) x y)
       reports g deletion x y = rw (stood (edited deletion g x y), stood g)
 
