@@ -39,7 +39,7 @@ module _ (c : Saved) where
   abbrev pub held : Marks
   held u v = ltb u (states trigger) && (ltb v (nodes graph) && members (getD (c .marks) v 0) u)
 
--- The fact of a row, "into any memory": every answer that keeps its promise tells this, and so is not refused with 10.
+-- The fact of a row, whatever words follow the session: every answer that keeps its promise tells this, and so is not refused with 10.
 pub record Reopened (c : Saved) : Type 0 where
   pub fitted : marksFit (formerly (trigger c) (graph c)) (trigger c) (graph c) (held c) ≡ c .fitted
   pub stood : (rest : List ℕ) (r : Standing) → Matches (image (trigger c) (graph c) (held c) ++ rest) (c .state) (c .node) r

@@ -9,7 +9,7 @@ use lib.Dec.{eqb}
 use lib.ListN.{getD}
 use borrow.Author.Tests.{eqb-true}
 use Rattle.simulation.specs.Sets.{Set}
-use Rattle.simulation.proofs.Sets.{clash, refuted, split, and-make, and-l, or-l, not-make, all-make, any-make}
+use Rattle.simulation.proofs.Sets.{clash, refuted, split, and-l, and-r, or-l, or-r, not-make, all-make, any-make, any-take}
 use Rattle.simulation.proofs.Edges.{all-same}
 use Rattle.bits.specs.Word.{bit, members}
 use Rattle.bits.proofs.Words.{zero-members, and-again, members-below}
@@ -87,18 +87,7 @@ module _ (k value sample : ℕ) where
   accepts-blank inverted = refl
 
 module _ (k : ℕ) (inverted : Bool) (mask value sample : ℕ) where
-  -- "which is the one exception": a state that is not both inverted and blank admits by the rule for turning round
-  pub accepts-former : (inverted && eqb mask 0) ≡ false → accepts k inverted mask value sample ≡ matches k inverted mask value sample
-  unfolding accepts matches
-  accepts-former h =
-      ⊎-elim
-      (λ (e : eqb mask 0 ≡ true).
-      let plain : inverted ≡ false = refuted inverted (λ i. clash (and-make i e) h) in
-      rw (e, plain, eqb-true mask 0 e) (sym (agrees-zero k value sample)))
-      (λ (e : eqb mask 0 ≡ false). rw e)
-      (split (eqb mask 0))
-
-  -- so what turns a state round is told by the state alone
+  -- what turns a state round is told by the state alone
   pub accepts-turned : accepts k inverted mask value sample ≡ matches k (inverted && not (eqb mask 0)) mask value sample
   unfolding accepts matches
   accepts-turned =
@@ -106,6 +95,15 @@ module _ (k : ℕ) (inverted : Bool) (mask value sample : ℕ) where
       (λ (e : eqb mask 0 ≡ true). rw (e, and-false inverted, eqb-true mask 0 e) (sym (agrees-zero k value sample)))
       (λ (e : eqb mask 0 ≡ false). rw (e, and-true inverted))
       (split (eqb mask 0))
+
+  -- "which is the one exception": a state that is not both inverted and blank is turned round just where it is inverted
+  pub accepts-former : (inverted && eqb mask 0) ≡ false → accepts k inverted mask value sample ≡ matches k inverted mask value sample
+  accepts-former h = accepts-turned ∙ ap (λ (b : Bool). matches k b mask value sample) (kept inverted (eqb mask 0) h)
+    where
+      kept : (i z : Bool) → (i && z) ≡ false → (i && not z) ≡ i
+      kept true true h = clash refl h
+      kept true false h = refl
+      kept false z h = refl
 
 module _ (k mask value sample : ℕ) where
   -- a plain state admits where they agree; "an inverted one exactly the nodes that its plain form does not", where the mask is not zero
@@ -153,6 +151,11 @@ module _ (t : Trigger) (g : Graph) where
     unfolding admits
     admits-formerly h = accepts-former wordBits (members (t .inverted) u) (getD (t .masks) u 0) (getD (t .values) u 0) (getD (g .samples) v 0) h
 
+    -- the exception adds, and takes nothing away
+    pub formerly-admits : formerly t g u v ≡ true → admits t g u v ≡ true
+    unfolding admits accepts
+    formerly-admits h = or-r (eqb (getD (t .masks) u 0) 0) h
+
   -- so a trigger without such a state has its former admissions; no inverted state is beyond the last
   pub admits-former : t .inverted < 2 ^ states t → blankInverted t ≡ false → admits t g ≡ formerly t g
   unfolding blankInverted
@@ -165,6 +168,17 @@ module _ (t : Trigger) (g : Graph) where
       found u h =
           let i = and-l (members (t .inverted) u) (eqb (getD (t .masks) u 0) 0) h in
           clash (any-make (states t) blank u (members-below (states t) (t .inverted) few u i) h) none
+
+-- and one with such a state has others, at every node
+pub blank-differs : (t : Trigger) → blankInverted t ≡ true
+    → (u : ℕ) × (u < states t) × ((g : Graph) (v : ℕ) → (admits t g u v ≡ true) × (formerly t g u v ≡ false))
+unfolding blankInverted
+blank-differs t h =
+    let r = any-take (states t) (λ u. members (t .inverted) u && eqb (getD (t .masks) u 0) 0) h in
+    let u = r .0 in
+    let i = and-l (members (t .inverted) u) (eqb (getD (t .masks) u 0) 0) (r .2) in
+    let z = eqb-true (getD (t .masks) u 0) 0 (and-r (members (t .inverted) u) (eqb (getD (t .masks) u 0) 0) (r .2)) in
+    (u, r .1, λ g v. (admits-blank t g u v z, formerly-none t g u v i z))
 
 -- the value's bits outside the mask are ignored
 pub agrees-outside : (k mask value value' sample : ℕ) → ((i : ℕ) → i < k → members mask i ≡ true → bit value i ≡ bit value' i)

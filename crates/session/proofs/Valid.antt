@@ -30,8 +30,10 @@ use Rattle.simulation.proofs.Edges.{elem-joins, joins-make, joins-insert, joins
 use Rattle.bits.proofs.Words.{members-below}
 use Rattle.session.specs.Limits.{maxStates, maxNodes, maxEdges, wordBits}
 use Rattle.session.specs.Trigger.{Trigger, Graph, Marks, states, nodes, linked, edge, edgeNumber, withEdge, withoutEdge, admits}
+use Rattle.session.specs.Former.{formerly, marksFit}
 use Rattle.session.specs.Layout.{below, validTrigger, names, validGraph, validMarks}
 use Rattle.session.proofs.Tables.{below-at}
+use Rattle.session.proofs.Admission.{formerly-admits}
 
 -- ---- a valid trigger
 
@@ -204,12 +206,16 @@ module _ (g : Graph) (a b : ℕ) where
 -- ---- valid marks
 
 module _ (t : Trigger) (g : Graph) (m : Marks) where
-  -- each mark is at an admitted pair, and back
+  -- each mark is at an admitted pair, by any admission
+  fit-facts : (a : Marks) → marksFit a t g m ≡ true → (u v : ℕ) → u < states t → v < nodes g → m u v ≡ true → a u v ≡ true
+  fit-facts a h u v l k e =
+      let row = all-take (nodes g) (λ v. allBelow (states t) (λ u. not (m u v) || a u v)) h v k in
+      implies-take (m u v) (a u v) (all-take (states t) (λ u. not (m u v) || a u v) row u l) e
+
+  -- by the present one, and back
   pub marks-facts : validMarks t g m ≡ true → (u v : ℕ) → u < states t → v < nodes g → m u v ≡ true → admits t g u v ≡ true
   unfolding validMarks
-  marks-facts h u v l k e =
-      let row = all-take (nodes g) (λ v. allBelow (states t) (λ u. not (m u v) || admits t g u v)) h v k in
-      implies-take (m u v) (admits t g u v) (all-take (states t) (λ u. not (m u v) || admits t g u v) row u l) e
+  marks-facts = fit-facts (admits t g)
 
   pub marks-valid : ((u v : ℕ) → u < states t → v < nodes g → m u v ≡ true → admits t g u v ≡ true) → validMarks t g m ≡ true
   unfolding validMarks
@@ -217,3 +223,7 @@ module _ (t : Trigger) (g : Graph) (m : Marks) where
       all-make (nodes g) (λ v. allBelow (states t) (λ u. not (m u v) || admits t g u v))
       (λ v k.
       all-make (states t) (λ u. not (m u v) || admits t g u v) (λ u l. implies-make (m u v) (admits t g u v) (h u v l k)))
+
+  -- marks that were valid before 02, Job 9, still are: no session leaves the layout
+  pub former-fits : marksFit (formerly t g) t g m ≡ true → validMarks t g m ≡ true
+  former-fits h = marks-valid (λ u v l k e. formerly-admits t g u v (fit-facts (formerly t g) h u v l k e))

@@ -15,7 +15,7 @@ agreement t g u v = agrees wordBits (getD (t .masks) u 0) (getD (t .values) u 0)
 abbrev pub formerly : Trigger → Graph → Marks
 formerly t g u v = matches wordBits (members (t .inverted) u) (getD (t .masks) u 0) (getD (t .values) u 0) (getD (g .samples) v 0)
 
--- "no mark is at a pair that isn't admitted", by an admission of one's own: what layout says of it
+-- "no mark is at a pair that isn't admitted", by any admission: what layout asks of marks
 abbrev pub marksFit : Marks → Trigger → Graph → Marks → Bool
 marksFit a t g m = allBelow (nodes g) (λ v. allBelow (states t) (λ u. not (m u v) || a u v))
 
