@@ -1,3 +1,4 @@
--- The laws of sets of states by their links, and of the table of callers.
+-- The laws of sets of states by their links, of the table of callers, and of what is reached.
 pub mod CallerTables
 pub mod LinkSets
+pub mod Reaching

@@ -1,9 +1,10 @@
-// Sets of states by their links: those that a set is linked to, and those with a link to a set.
+// Sets of states by their links: those that a set is linked to, those with a link to a set, and those that are reached.
 ghost use mathlib.Core.Path.{_≡_};
 ghost use Prim.Native.Nat.{ℕ, _≤_, _<_};
 ghost use lib.ListN.{length, getD};
 ghost use Rattle.simulation.specs.Sets.{minus};
 ghost use Rattle.bits.specs.Word.{members};
+ghost use Rattle.session.specs.Reached.{reached, linkedBy};
 ghost use Rattle.links.specs.Links.{linkedFrom, linksTo, Callers};
 ghost use mathlib.Core.Bool.{_&&_, _||_};
 ghost use lib.Dec.{eqb};
@@ -54,6 +55,24 @@ pub fn unlinked(links: &[u32], word: u32, others: u32) -> u32
         rest = bits::without_lowest(rest);
     }
     left
+}
+
+// The states that a chain of links reaches from State One. Each is gone through once; `left` has those that no chain has met, `rest` those whose links
+// are still to be followed.
+pub fn reached(links: &[u32]) -> u32
+    requires { ⌜ (0 < length (now links)) × (length (now links) ≤ 32) ⌝ }
+    ensures { λ r. ⌜ members r ≡ reached (linkedBy (now (links .entry))) ⌝ }
+{
+    let all = bits::below(links.len() as u32);
+    let mut left = bits::difference(all, 1);
+    let mut rest = 1;
+    while rest != 0 {
+        let u = bits::lowest(rest);
+        let met = links[u as usize] & left;
+        left = bits::difference(left, met);
+        rest = bits::without_lowest(rest) | met;
+    }
+    bits::difference(all, left)
 }
 
 // A word for each number that a link may name.

@@ -17,6 +17,8 @@ use Rattle.simulation.proofs.Ordered.{elem-head, elem-tail, elem-take, elem-app
 use Rattle.simulation.proofs.Loops.{count-same}
 use Rattle.simulation.proofs.Loops.{count-none, count-also}
 use Rattle.session.specs.Trigger.{Trigger, states, linked}
+use Rattle.session.specs.Reached.{reached}
+use Rattle.session.proofs.Reached.{reached-one, reached-link, reached-least}
 use Rattle.listing.specs.Order.{fold, visit, order}
 
 -- no entry twice
@@ -124,9 +126,12 @@ fold-same P (suc n) step step' xs keeps agree p =
     ap (step n) (fold-same P n step step' xs (λ u ys l. keeps u ys (omega arith)) (λ u ys l. agree u ys (omega arith)) p)
     ∙ agree n (fold n step' xs) (omega arith) (fold-keeps P n step' xs (λ u ys l. keeps u ys (omega arith)) p)
 
+cond-when : (P : List ℕ → Type 0) (b : Bool) {xs ys : List ℕ} → (b ≡ true → P xs) → P ys → P (cond b xs ys)
+cond-when P true p q = p refl
+cond-when P false p q = q
+
 cond-keeps : (P : List ℕ → Type 0) (b : Bool) {xs ys : List ℕ} → P xs → P ys → P (cond b xs ys)
-cond-keeps P true p q = p
-cond-keeps P false p q = q
+cond-keeps P b p q = cond-when P b (λ e. p) q
 
 -- xs is the front of ys
 abbrev pub Front : List ℕ → List ℕ → Type 0
@@ -159,9 +164,9 @@ module _ (t : Trigger) where
   unfolding visit
   visit-new depth u xs e = rw e
 
-  -- what a new state at the end keeps, a visit keeps
+  -- what a new state at the end keeps, a visit keeps; Q holds of the state, and along links
   pub visit-holds : (Q : ℕ → Type 0) (P : List ℕ → Type 0)
-      → ((u : ℕ) → u < states t → Q u)
+      → ((u u' : ℕ) → Q u → u' < states t → linked t u u' ≡ true → Q u')
       → ((u : ℕ) (xs : List ℕ) → Q u → elem u xs ≡ false → P xs → P (xs ++ (u ∷ [])))
       → (depth u : ℕ) (xs : List ℕ) → Q u → P xs → P (visit t depth u xs)
   unfolding visit
@@ -172,14 +177,14 @@ module _ (t : Trigger) where
       (λ (e : elem u xs ≡ false).
       rw e
       (fold-keeps P (states t) (along depth u) (xs ++ (u ∷ []))
-      (λ u' ys l r. cond-keeps P (linked t u u') (visit-holds Q P all add depth u' ys (all u' l) r) r)
+      (λ u' ys l r. cond-when P (linked t u u') (λ k. visit-holds Q P all add depth u' ys (all u u' q l k) r) r)
       (add u xs q e p)))
       (split (elem u xs))
 
   -- what is written stays, in front
   pub visit-front : (depth u : ℕ) (xs ys : List ℕ) → Front xs ys → Front xs (visit t depth u ys)
   visit-front depth u xs ys w =
-      visit-holds (λ v. Unit {0}) (Front xs) (λ v l. tt) (λ v zs q e p. front-snoc v xs zs p) depth u ys tt w
+      visit-holds (λ v. Unit {0}) (Front xs) (λ v w q l k. tt) (λ v zs q e p. front-snoc v xs zs p) depth u ys tt w
 
   pub visit-keeps : (depth u : ℕ) (xs : List ℕ) → (ys : List ℕ) × (visit t depth u xs ≡ xs ++ ys)
   visit-keeps depth u xs = visit-front depth u xs xs (front-refl xs)
@@ -190,11 +195,11 @@ module _ (t : Trigger) where
   -- nothing is written twice, and only states are
   pub visit-once : (depth u : ℕ) (xs : List ℕ) → Once xs → Once (visit t depth u xs)
   visit-once depth u xs o =
-      visit-holds (λ v. Unit {0}) Once (λ v l. tt) (λ v ys q e p. once-snoc v ys p e) depth u xs tt o
+      visit-holds (λ v. Unit {0}) Once (λ v w q l k. tt) (λ v ys q e p. once-snoc v ys p e) depth u xs tt o
 
   pub visit-below : (depth u : ℕ) (xs : List ℕ) → u < states t → Below (states t) xs → Below (states t) (visit t depth u xs)
   visit-below depth u xs l b =
-      visit-holds (λ v. v < states t) (Below (states t)) (λ v m. m) (λ v ys q e p. below-snoc (states t) v ys p q) depth u xs l b
+      visit-holds (λ v. v < states t) (Below (states t)) (λ v w q l k. l) (λ v ys q e p. below-snoc (states t) v ys p q) depth u xs l b
 
   pub visit-longer : (depth u : ℕ) (xs : List ℕ) → length xs ≤ length (visit t depth u xs)
   visit-longer depth u xs =
@@ -381,6 +386,27 @@ module _ (t : Trigger) where
       by : (d : ℕ) → d ≤ states t → Below (states t) (visit t d 0 [])
       by zero l = λ y h. clash h refl
       by (suc d) l = visit-below t (suc d) 0 [] (omega arith) (λ y h. clash h refl)
+
+  -- the visit of State One writes just the states that are reached
+  pub visited-reached : (u : ℕ) → elem u visited ≡ reached t u
+  unfolding visit elem
+  visited-reached u = same (elem u visited) (reached t u) (by (states t) (omega arith) u) (reached-least t (λ v. elem v visited ≡ true) first next u)
+    where
+      all : Enough t (states t) []
+      all = record { each-once = tt; each-below = λ y h. clash h refl; deep = omega arith }
+
+      first : 0 < states t → elem 0 visited ≡ true
+      first l = visit-reaches t (states t) 0 [] all l
+
+      next : (v v' : ℕ) → elem v visited ≡ true → v' < states t → linked t v v' ≡ true → elem v' visited ≡ true
+      next v v' h l k = visit-follows t (states t) 0 [] all (omega arith) v v' h refl l k
+
+      by : (d : ℕ) → d ≤ states t → (y : ℕ) → elem y (visit t d 0 []) ≡ true → reached t y ≡ true
+      by zero l = λ y h. clash h refl
+      by (suc d) l =
+          visit-holds t (λ v. reached t v ≡ true) (λ ys. (y : ℕ) → elem y ys ≡ true → reached t y ≡ true) (λ v v' q m k. reached-link t v v' m q k)
+          (λ v ys q e p y h. ⊎-elim (p y) (λ (i : y ≡ v). rw i q) (snoc-take y v ys h))
+          (suc d) 0 [] (reached-one t (omega arith)) (λ y h. clash h refl)
 
   -- each state once, and nothing else
   pub indices-once : Once indices

@@ -24,7 +24,7 @@ use Rattle.promises.specs.Answers.{Outcome, Summary, accepted, refused, 
 use Rattle.promises.specs.Rules.{Kind, insertion, deletion, Given, givenTrigger, givenGraph, edited, verdict, loadRules, editRules, questionRules}
 use Rattle.promises.specs.Promises.{Untouched, Reported, loadList, loadTrials, Loaded, Edited, Ordered}
 use Rattle.promises.specs.Model.{Model, begun, Edit, modelRules, step}
-use Rattle.promises.specs.Demands.{Judged, Answered, LoadCarried, EditCarried, Demand1, Demand2, Call, Run, ended, called, editOf, Faithful, Held, Kept, Follows, Demand3}
+use Rattle.promises.specs.Demands.{Judged, Answered, LoadCarried, EditCarried, Demand1, FiresBy, Demand2, Call, Run, ended, called, editOf, Faithful, Held, Kept, Follows, Demand3}
 use Rattle.promises.proofs.Stands.{stands-simulates, stands-greatest, stands-inside, fires-iff}
 use Rattle.promises.proofs.Handed.{handed-back, handed-none}
 use Rattle.promises.proofs.Verdicts.{accepts-or, verdict-lacks}
@@ -227,7 +227,7 @@ module _ (b : Model) (s : List ℕ) (f : Faithful b s) (c : Call)
         never10 = λ ten. let z : _≡_ {A = ℕ} 0 1 = cc (w .report .answer, ten) in absurd (omega arith);
         held = held record { trigger = t; graph = g' } (c .session)
             (subst (λ (x : Model). Faithful x (c .session)) (step-accepted b e ok) after);
-        firing = λ z. ap firesTold (w .report .answer) ∙ ap (fires t g') marks;
+        firing = λ z. subst (FiresBy t (stands t g')) (sym (ap firesTold (w .report .answer) ∙ ap (fires t g') marks)) (fires-iff t g');
         list =
             ap (λ (room : List ℤ). handedBack room (c .answer)) (w .report .room)
             ∙ handed-back list (drop (length list) (c .room)) (c .answer) (ap changesTold (w .report .answer))
@@ -270,8 +270,10 @@ pub demand3 : (x : Given) (s : List ℕ) (c : List ℤ) (r : Answer) (s' : List 
     → verdict (loadRules (length s) (length c) x) ≡ 0 → Demand3 x r s'
 demand3 x s c r s' c' p ok =
     let f = faithful-load x s c r s' c' p ok in
+    let t = givenTrigger x in
+    let g = givenGraph x in
     record {
       loaded = held (begun x) s' f;
-      firing = ap firesTold (p .accepts ok .1 .answer);
+      firing = subst (FiresBy t (stands t g)) (sym (ap firesTold (p .accepts ok .1 .answer))) (fires-iff t g);
       calls = λ cs run. follows (begun x) f run;
     }

@@ -1,6 +1,7 @@
 -- The laws of the definitions, and the proofs of the demands.
 pub mod Worked
 pub mod Stands
+pub mod Cut
 pub mod Former
 pub mod Trials
 pub mod Handed

@@ -14,6 +14,7 @@ use Rattle.simulation.specs.Ordered.{elem, insert, remove, joins}
 use Rattle.bits.specs.Word.{word}
 use Rattle.session.specs.Limits.{maxEdges, maxChanges, fixedSize}
 use Rattle.session.specs.Trigger.{Trigger, Graph, nodes, linked, edge, edgeNumber, agrees, matches, accepts, admits}
+use Rattle.session.specs.Reached.{reached}
 use Rattle.session.specs.Layout.{table, markWord, below, inLayout}
 use Rattle.listing.specs.Changes.{joinTo, changes}
 use Rattle.listing.specs.Order.{fold, visit, order}
@@ -79,7 +80,7 @@ told =
     ∷ []
 
 worked : map answer rows ≡ told
-unfolding answer judge rows told self graph verdict insert remove joins elem edge linked admits accepts matches agrees fires stands best
+unfolding answer judge rows told self graph verdict insert remove joins elem edge linked admits accepts matches agrees reached fires stands best
     greatest supported shrunk down anyBelow allBelow count changes joinTo trialSet closure grown up reaches
 worked = refl
 

@@ -1,13 +1,14 @@
 -- The three demands, over the promises of the calls. They are proved in proofs/Demands.
-use Prim.Native.Nat.{ℕ, _-_, _<_, _≤_}
+use Prim.Native.Nat.{ℕ, _-_, _≤_}
 use mathlib.Core.Path.{_≡_}
 use mathlib.Core.Logic.{_↔_}
-use mathlib.Core.Bool.{true}
+use mathlib.Core.Bool.{Bool, true}
 use mathlib.Core.List.{List, [], _∷_, _++_}
 use lib.IntN.{ℤ}
 use lib.ListN.{length, take, drop}
 use Rattle.session.specs.Limits.{maxStates, maxChanges, fixedSize}
 use Rattle.session.specs.Trigger.{Trigger, Graph, Marks, states, linked, edge}
+use Rattle.session.specs.Reached.{Reached}
 use Rattle.session.specs.Layout.{section, image, validTrigger, validGraph, triggerOf, graphOf, marksOf}
 use Rattle.listing.specs.Changes.{changes}
 use Rattle.listing.specs.Order as listing
@@ -69,12 +70,16 @@ pub record Demand1 : Type 0 where
 
 -- ---- Demand 2
 
+-- firing, as a demand says it: yes exactly when every reached state has a node, by these marks
+abbrev pub FiresBy : Trigger → Marks → Bool → Type 0
+FiresBy t m told = (told ≡ true) ↔ ((u : ℕ) → Reached t u → (v : ℕ) × (m u v ≡ true))
+
 pub record Demand2 (x : Given) (r : Answer) (s : List ℕ) : Type 1 where
   -- "each marked pair lies in some simulation and no simulation holds an unmarked one"
   pub simulates : Simulation (givenTrigger x) (givenGraph x) (λ u v. marksOf s u v ≡ true)
   pub greatest : (R : ℕ → ℕ → Type 0) → Simulation (givenTrigger x) (givenGraph x) R → (u v : ℕ) → R u v → marksOf s u v ≡ true
-  -- "The trigger fires exactly when every state stands at some node."
-  pub firing : (firesTold (told r) ≡ true) ↔ ((u : ℕ) → u < states (givenTrigger x) → (v : ℕ) × (marksOf s u v ≡ true))
+  -- "The trigger fires exactly when every state stands at some node", and 02, Job 5: every reached state
+  pub firing : FiresBy (givenTrigger x) (marksOf s) (firesTold (told r))
 
 -- ---- Demand 3
 
@@ -131,9 +136,8 @@ pub record Kept (b b' : Model) (c : Call) : Type 0 where
   pub judged : Judged (verdict (modelRules b (editOf c))) (told (c .answer))
   pub never10 : told (c .answer) ≡ refused 10 → ⊥
   pub held : Held b' (c .session)
-  -- "The load and each accepted call report firing exactly when the trigger fires in the present graph."
-  pub firing : verdict (modelRules b (editOf c)) ≡ 0
-      → firesTold (told (c .answer)) ≡ fires (b' .trigger) (b' .graph) (stands (b' .trigger) (b' .graph))
+  -- "The load and each accepted call report firing exactly when the trigger fires in the present graph": when every reached state stands there
+  pub firing : verdict (modelRules b (editOf c)) ≡ 0 → FiresBy (b' .trigger) (stands (b' .trigger) (b' .graph)) (firesTold (told (c .answer)))
   -- "The change list of an accepted edit equals the list, ascending by size, of the changes for exactly the pairs that stand in the present
   -- graph before it or after it and not in both"
   pub list : handedBack (c .changes) (c .answer)
@@ -150,5 +154,5 @@ Follows b (c ∷ cs) = Kept b (step b (editOf c)) c × Follows (step b (editOf c
 -- "For every accepted load and every list of insertions and deletions after it, refused ones included"
 pub record Demand3 (x : Given) (r : Answer) (s : List ℕ) : Type 0 where
   pub loaded : Held (begun x) s
-  pub firing : firesTold (told r) ≡ fires (givenTrigger x) (givenGraph x) (stands (givenTrigger x) (givenGraph x))
+  pub firing : FiresBy (givenTrigger x) (stands (givenTrigger x) (givenGraph x)) (firesTold (told r))
   pub calls : (cs : List Call) → Run s cs → Follows (begun x) cs

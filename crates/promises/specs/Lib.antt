@@ -1,5 +1,6 @@
 -- What the engine means and promises.
 pub mod Standing
+pub mod Former
 pub mod Answers
 pub mod Rules
 pub mod Promises

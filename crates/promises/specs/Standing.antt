@@ -1,12 +1,19 @@
--- 01, "Standing", and the trial set of "Edits and what they report".
+-- 01, "Standing", with the firing of 02, Job 5; and the trial set of "Edits and what they report".
 use Prim.Native.Nat.{ℕ, _*_, _<_}
 use mathlib.Core.Path.{_≡_}
-use mathlib.Core.Bool.{Bool, true, not, _&&_}
+use mathlib.Core.Logic.{_↔_}
+use mathlib.Core.Bool.{Bool, true, not, _&&_, _||_}
+use mathlib.Core.List.{List}
 use lib.Dec.{eqb}
+use lib.ListN.{length, getD}
 use Rattle.simulation.specs.Sets.{Set, allBelow, anyBelow, count}
+use Rattle.simulation.specs.Ordered.{listOf}
 use Rattle.simulation.specs.System.{closure}
 use Rattle.simulation.specs.Pattern.{paired, system, best}
+use Rattle.bits.specs.Word.{members, word}
 use Rattle.session.specs.Trigger.{Trigger, Graph, Marks, states, nodes, linked, edge, admits, pattern}
+use Rattle.session.specs.Reached.{Reached, reached}
+use Rattle.session.specs.Layout.{table}
 
 -- "A simulation is a set of pairs (state u, node v) such that u admits v, and for each link from u to u' there is an edge from v to some v'
 -- with (u', v') in the set."
@@ -19,9 +26,27 @@ pub record Simulation (t : Trigger) (g : Graph) (R : ℕ → ℕ → Type 0) : T
 unfoldable pub stands : Trigger → Graph → Marks
 stands t g = best (pattern t g)
 
--- "The trigger fires when every state stands at some node", of any marks
+-- "The trigger fires when every state stands at some node", of any marks; 02, Job 5, "demands a node only of states reached from State One"
 unfoldable pub fires : Trigger → Graph → Marks → Bool
-fires t g m = allBelow (states t) (λ u. anyBelow (nodes g) (m u))
+fires t g m = allBelow (states t) (λ u. not (reached t u) || anyBelow (nodes g) (m u))
+
+-- 02, Job 5, "the trigger cut down to its reached states": these in ascending order, by index, and what the state at j there is in t
+unfoldable pub kept : Trigger → List ℕ
+kept t = listOf (states t) (reached t)
+
+abbrev pub stateAt : Trigger → ℕ → ℕ
+stateAt t j = getD (kept t) j 0
+
+-- a trigger of these states alone, numbered anew
+unfoldable pub cut : Trigger → Trigger
+cut t =
+    let n = length (kept t) in
+    record {
+      masks = table n (λ j. getD (t .masks) (stateAt t j) 0);
+      values = table n (λ j. getD (t .values) (stateAt t j) 0);
+      links = table n (λ j. word n (λ i. linked t (stateAt t j) (stateAt t i)));
+      inverted = word n (λ j. members (t .inverted) (stateAt t j));
+    }
 
 -- Document 000's match relation: a simulation in which every state has a node; and the pairs of its largest one, none where there is none.
 pub record Match (t : Trigger) (g : Graph) (R : ℕ → ℕ → Type 0) : Type 0 where
@@ -30,6 +55,18 @@ pub record Match (t : Trigger) (g : Graph) (R : ℕ → ℕ → Type 0) : Type 0
 
 abbrev pub Matched : Trigger → Graph → ℕ → ℕ → Type 0
 Matched t g u v = (X : Marks) × Match t g (λ u v. X u v ≡ true) × (X u v ≡ true)
+
+-- 02, Job 5, "The outside comparison is document 000's rule on the trigger cut down to its reached states": it is proved in proofs/Cut of every trigger
+-- and graph.
+pub record Compared (t : Trigger) (g : Graph) : Type 0 where
+  -- the states of the cut trigger are those reached, each once
+  pub all : (u : ℕ) → Reached t u ↔ ((j : ℕ) × (j < states (cut t)) × (stateAt t j ≡ u))
+  pub once : (i j : ℕ) → i < j → j < states (cut t) → stateAt t i < stateAt t j
+  -- "cutting alters no mark of a reached state"
+  pub marks : (j v : ℕ) → j < states (cut t) → stands (cut t) g j v ≡ stands t g (stateAt t j) v
+  -- the trigger fires exactly when 000's relation is not empty, and then that relation is the marks of the reached states
+  pub firing : 0 < states t → (fires t g (stands t g) ≡ true) ↔ ((j : ℕ) × (v : ℕ) × Matched (cut t) g j v)
+  pub relation : fires t g (stands t g) ≡ true → (j v : ℕ) → j < states (cut t) → Matched (cut t) g j v ↔ (stands t g (stateAt t j) v ≡ true)
 
 -- how many pairs of the trigger and the graph are in the set
 abbrev pub size : Trigger → Graph → Set → ℕ

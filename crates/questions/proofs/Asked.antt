@@ -12,10 +12,11 @@ use Rattle.simulation.proofs.Sets.{refuted, not-make, and-make, and-l, and-r}
 use Rattle.bits.specs.Word.{members}
 use Rattle.session.specs.Limits.{fixedSize, marksAt}
 use Rattle.session.specs.Trigger.{Trigger, states, nodes, linked}
+use Rattle.session.specs.Reached.{linkedBy}
 use Rattle.session.specs.Layout.{triggerOf, graphOf, marksOf, inLayout}
 use Rattle.session.proofs.Decoded.{layout-facts, layout-limits}
 use Rattle.listing.specs.Order.{fold, visit, order}
-use Rattle.walk_order.specs.Walks.{linkedBy, rest}
+use Rattle.walk_order.specs.Walks.{rest}
 use Rattle.listing.proofs.Orders.{fold-same}
 use Rattle.promises.specs.Rules.{Rule, rule, verdict, questionRules, pairRules}
 use Rattle.promises.specs.Answers.{accepted, refused, outcome}

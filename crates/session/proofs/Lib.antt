@@ -2,6 +2,7 @@
 pub mod Tables
 pub mod Valid
 pub mod Admission
+pub mod Reached
 pub mod Image
 pub mod Decoded
 pub mod Stores

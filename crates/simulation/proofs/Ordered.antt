@@ -11,7 +11,8 @@ use lib.Dec.{ltb, leb, eqb}
 use lib.ListN.{length, getD}
 use borrow.Author.Tests.{ltb-true, ltb-false, lt-ltb, leb-true, leb-false, eqb-true, eqb-false, eq-eqb}
 use Rattle.simulation.specs.Search.{first}
-use Rattle.simulation.specs.Ordered.{elem, ascends, insert, remove}
+use Rattle.simulation.specs.Sets.{Set}
+use Rattle.simulation.specs.Ordered.{elem, ascends, listOf, insert, remove}
 use Rattle.simulation.proofs.Sets.{clash, split, same, refuted, and-l, and-r, or-l, or-r, or-take, not-take, all-make, all-take}
 use Rattle.simulation.proofs.Search.{first-le, first-before, first-at}
 
@@ -255,3 +256,43 @@ rising-append (x ∷ xs) ys h k above = (
   λ y e. ⊎-elim (λ i. h .0 y i) (λ i. above x y (elem-head x xs) i) (or-take (elem y xs) (elem y ys) (sym (elem-append y xs ys) ∙ e)),
   rising-append xs ys (h .1) k (λ z y i j. above z y (elem-tail z x xs i) j),
 )
+
+-- ---- the members of a set below n
+
+elem-one : (y n : ℕ) (b : Bool) → elem y (cond b (n ∷ []) []) ≡ true → (y ≡ n) × (b ≡ true)
+unfolding elem
+elem-one y n true h = ⊎-elim (λ e. (e, refl)) (λ e. clash e refl) (elem-take y n [] h)
+elem-one y n false h = clash h refl
+
+module _ (X : Set) where
+  pub listed-take : (n x : ℕ) → elem x (listOf n X) ≡ true → (x < n) × (X x ≡ true)
+  unfolding listOf elem
+  listed-take zero x h = clash h refl
+  listed-take (suc n) x h =
+      ⊎-elim
+      (λ e. let r = listed-take n x e in (omega (arith, r .0), r .1))
+      (λ e. let r = elem-one x n (X n) e in (omega (arith, r .0), ap X (r .0) ∙ r .1))
+      (or-take (elem x (listOf n X)) (elem x (cond (X n) (n ∷ []) [])) (sym (elem-append x (listOf n X) (cond (X n) (n ∷ []) [])) ∙ h))
+
+  pub listed-make : (n x : ℕ) → x < n → X x ≡ true → elem x (listOf n X) ≡ true
+  unfolding listOf
+  listed-make zero x l h = absurd (omega arith)
+  listed-make (suc n) x l h =
+      elem-append x (listOf n X) (cond (X n) (n ∷ []) [])
+      ∙ ⊎-elim
+      (λ (e : suc x ≡ suc n).
+      let q : x ≡ n = omega arith in
+      or-r (elem x (listOf n X)) (rw (q, ap X (sym q) ∙ h) (elem-head n [])))
+      (λ (k : suc x < suc n). or-l (elem x (cond (X n) (n ∷ []) [])) (listed-make n x (omega arith) h))
+      (eq-or-lt-of-le l)
+
+  pub listed-rises : (n : ℕ) → Rising (listOf n X)
+  unfolding listOf elem
+  listed-rises zero = tt
+  listed-rises (suc n) =
+      rising-append (listOf n X) (cond (X n) (n ∷ []) []) (listed-rises n) (alone (X n))
+      (λ x y i j. let below = listed-take n x i .0 in let here = elem-one y n (X n) j .0 in omega arith)
+    where
+      alone : (b : Bool) → Rising (cond b (n ∷ []) [])
+      alone true = (λ y e. clash e refl, tt)
+      alone false = tt

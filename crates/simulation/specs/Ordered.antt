@@ -1,7 +1,7 @@
 -- Strictly ascending lists as sets, and a graph held as one: the edge from v to w is the number v * width + w.
-use Prim.Native.Nat.{ℕ, _+_, _-_, _*_, _%_}
+use Prim.Native.Nat.{ℕ, zero, suc, _+_, _-_, _*_, _%_}
 use mathlib.Core.Bool.{Bool, false, _&&_, _||_, cond}
-use mathlib.Core.List.{List, [], _∷_}
+use mathlib.Core.List.{List, [], _∷_, _++_}
 use lib.Dec.{ltb, leb, eqb}
 use lib.ListN.{length, getD}
 use Rattle.simulation.specs.Sets.{Set, allBelow}
@@ -14,6 +14,11 @@ elem x (y ∷ ys) = eqb x y || elem x ys
 -- each entry is below the next
 unfoldable pub ascends : List ℕ → Bool
 ascends xs = allBelow (length xs - 1) (λ k. ltb (getD xs k 0) (getD xs (k + 1) 0))
+
+-- the members of X below n
+unfoldable pub listOf : ℕ → Set → List ℕ
+listOf zero X = []
+listOf (suc n) X = listOf n X ++ cond (X n) (n ∷ []) []
 
 -- an ascending list with x put in, or taken out
 unfoldable pub insert : ℕ → List ℕ → List ℕ

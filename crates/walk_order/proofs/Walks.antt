@@ -16,8 +16,9 @@ use Rattle.bits.proofs.Words.{zero-members}
 use Rattle.simulation.proofs.Loops.{count-none, count-not, count-also}
 use Rattle.session.specs.Layout.{table, section}
 use Rattle.session.specs.Trigger.{linked}
+use Rattle.session.specs.Reached.{linkedBy}
 use Rattle.listing.specs.Order.{fold, visit, order}
-use Rattle.walk_order.specs.Walks.{linkedBy, WalkOf, Counted, unvisited, Written, Ready, Visited, rest}
+use Rattle.walk_order.specs.Walks.{WalkOf, Counted, unvisited, Written, Ready, Visited, rest}
 use Rattle.walk_order.specs.declared.Walk.{Walk}
 use Rattle.listing.proofs.Orders.{along, follow, numbers, visit-old, visit-new}
 

@@ -7,14 +7,10 @@ use lib.ListN.{length}
 use Rattle.simulation.specs.Sets.{also, count}
 use Rattle.simulation.specs.Ordered.{elem}
 use Rattle.bits.specs.Word.{members}
-use Rattle.session.specs.Trigger.{Trigger}
+use Rattle.session.specs.Reached.{linkedBy}
 use Rattle.session.specs.Layout.{section}
 use Rattle.listing.specs.Order.{fold, visit}
 use Rattle.walk_order.specs.declared.Walk.{Walk}
-
--- a trigger with these links: the depth-first order depends on nothing else
-abbrev pub linkedBy : List ℕ → Trigger
-linkedBy links = record { masks = links; values = links; links = links; inverted = 0 }
 
 -- the walk holds this list of indices: their set, their numbers with zeros after them, and how many they are
 pub record WalkOf (xs : List ℕ) (w : Walk) : Type 0 where

@@ -5,7 +5,8 @@ ghost use Prim.Native.Nat.{ℕ, _<_, _≤_};
 ghost use lib.ListN.{length};
 ghost use Rattle.session.specs.Layout.{section};
 ghost use Rattle.listing.specs.Order.{order};
-ghost use Rattle.walk_order.specs.Walks.{linkedBy, WalkOf, Counted, Written, Ready, Visited, rest};
+ghost use Rattle.session.specs.Reached.{linkedBy};
+ghost use Rattle.walk_order.specs.Walks.{WalkOf, Counted, Written, Ready, Visited, rest};
 ghost use Rattle.session.specs.Limits.{maxStates};
 
 // What was visited, as a set, and the numbers of the states in the order in which they were; places past them are zero.

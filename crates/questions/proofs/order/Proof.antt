@@ -5,10 +5,10 @@ use mathlib.Core.Path.{_≡_, sym, _∙_, ap}
 use mathlib.Core.Bool.{true}
 use mathlib.Core.List.{List}
 use Prim.Native.Nat.{ℕ}
+use Rattle.session.specs.Reached.{linkedBy}
 use Rattle.session.specs.Layout.{table, section, inLayout}
 use Rattle.session.proofs.Decoded.{Bounded, layout-limits, layout-facts}
 use Rattle.listing.specs.Order.{order}
-use Rattle.walk_order.specs.Walks.{linkedBy}
 use Rattle.questions.proofs.Asked.{answer-refused, answer-accepted, none-listed, all-listed, links-long, asked-order}
 use Rattle.promises.proofs.Passed.{question-passed}
 use Rattle.questions.proofs.order.Statement.{statement}
