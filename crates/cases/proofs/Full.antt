@@ -18,6 +18,7 @@ use Rattle.session.specs.Trigger.{Trigger, Graph, states, nodes, edge, edgeNumb
 use Rattle.session.specs.Layout.{table, below, validTrigger}
 use Rattle.session.proofs.Tables.{length-table, getD-table, below-make}
 use Rattle.session.proofs.Valid.{TriggerFacts, GraphFacts, trigger-facts}
+use Rattle.session.proofs.Reached.{reached-one}
 use Rattle.listing.proofs.Lists.{changes-none}
 use Rattle.promises.specs.Standing.{stands, fires, pairsOf}
 use Rattle.promises.specs.Rules.{Kind, insertion, Given, givenTrigger, givenGraph, graphRules, verdict, loadRules}
@@ -48,7 +49,7 @@ module _ (t : Trigger) (g : Graph) (h : (u v : ℕ) → u < states t → v < nod
 
   none-fire : 0 < states t → fires t g (stands t g) ≡ false
   none-fire some =
-      refuted (fires t g (stands t g)) (λ e. let w = fires-take t g (stands t g) e 0 some in clash (w .2) (none-stand 0 (w .0)))
+      refuted (fires t g (stands t g)) (λ e. let w = fires-take t g (stands t g) e 0 (reached-one t some) in clash (w .2) (none-stand 0 (w .0)))
 
 pub loaded-none : (x : Given) → 0 < states (givenTrigger x)
     → ((u v : ℕ) → u < states (givenTrigger x) → v < nodes (givenGraph x) → admits (givenTrigger x) (givenGraph x) u v ≡ false)

@@ -8,13 +8,14 @@ use lib.Dec.{ltb, leb}
 use lib.ListN.{length, length-append, getD}
 use borrow.Author.Tests.{ltb-true, le-ltb}
 use Rattle.simulation.specs.System.{greatest, supported}
-use Rattle.simulation.specs.Sets.{anyBelow, allBelow, shrunk, down}
+use Rattle.simulation.specs.Sets.{anyBelow, allBelow, shrunk, down, grown, up}
 use Rattle.simulation.specs.Pattern.{best}
 use Rattle.simulation.specs.Ordered.{ascends, joins, elem}
 use Rattle.simulation.proofs.Sets.{and-l, and-r}
 use Rattle.bits.specs.Word.{members}
 use Rattle.session.specs.Limits.{fixedSize}
 use Rattle.session.specs.Trigger.{states, nodes, linked, edge, agrees, matches, accepts, admits}
+use Rattle.session.specs.Reached.{reached}
 use Rattle.session.specs.Former.{formerly, marksFit}
 use Rattle.session.specs.Layout.{table, below, names, image, triggerOf, graphOf, marksOf, validTrigger, validGraph, validMarks, inLayout}
 use Rattle.session.proofs.Valid.{trigger-facts, graph-facts}
@@ -27,7 +28,7 @@ use Rattle.promises.specs.Answers.{accepted, toldStanding, toldFiring}
 use Rattle.promises.specs.Rules.{verdict}
 use Rattle.promises.specs.Promises.{Matches, Fires}
 use Rattle.cases.specs.Cases.{Every, none, _and_}
-use Rattle.cases.specs.Saved.{Saved, trigger, graph, held, Reopened, marked, unmarked, unmarkedRing, savedCases}
+use Rattle.cases.specs.Saved.{Saved, trigger, graph, held, Reopened, marked, unmarked, unmarkedRing, unfollowed, unlinked, savedCases}
 
 module _ (c : Saved) (valid : (validTrigger (trigger c) && (validGraph (graph c) && validMarks (trigger c) (graph c) (held c))) ≡ true) (rest : List ℕ) where
   abbrev memory : List ℕ
@@ -84,10 +85,12 @@ is-reopened c valid there fit m f s = record {
 }
 
 pub reopened-all : Every Reopened savedCases
-unfolding savedCases marked unmarked unmarkedRing table below names validTrigger validGraph validMarks ascends joins elem edge linked admits accepts matches agrees
-    fires stands best greatest supported shrunk down anyBelow allBelow
+unfolding savedCases marked unmarked unmarkedRing unfollowed unlinked table below names validTrigger validGraph validMarks ascends joins elem edge linked admits accepts matches agrees
+    reached fires stands best greatest supported shrunk down grown up anyBelow allBelow
 reopened-all =
     is-reopened marked refl refl refl refl refl refl
     and is-reopened unmarked refl refl refl refl refl refl
     and is-reopened unmarkedRing refl refl refl refl refl refl
+    and is-reopened unfollowed refl refl refl refl refl refl
+    and is-reopened unlinked refl refl refl refl refl refl
     and none

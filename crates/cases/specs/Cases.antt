@@ -158,13 +158,14 @@ full =
     (edit insertion 4 0 ∷ edit insertion 0 0 ∷ [])
     (report false 0 [] ∷ refusal 13 ∷ refusal 12 ∷ [])
 
--- "Two states without links, one node admitted by state 1 alone: its mark held, not firing."
+-- "Two states without links, one node admitted by state 1 alone: its mark held", and 02, Job 5, "fires if the standing one is State One and the other is
+-- unreached"
 unfoldable pub half : Case
 half =
     row
     (given (0xFFFF ∷ 0xFFFF ∷ []) (1 ∷ 2 ∷ []) (0 ∷ 0 ∷ []) 0 (1 ∷ []) [] [])
-    (standing 1 0 ∷ firing ∷ [])
-    (report false 1 (pos 1 ∷ []) ∷ says true ∷ says false ∷ [])
+    (standing 1 0 ∷ standing 2 0 ∷ firing ∷ [])
+    (report true 1 (pos 1 ∷ []) ∷ says true ∷ says false ∷ says true ∷ [])
 
 -- 02, Job 1, "Users hunt for anything but the idle word": an inverted state stands at each node but the idle ones
 unfoldable pub hunted : Case
@@ -198,6 +199,44 @@ blankRing =
     (edit insertion 0 1 ∷ edit insertion 1 0 ∷ edit deletion 0 1 ∷ [])
     (report false 3 [] ∷ report false 1 [] ∷ report true 2 (pos 1 ∷ pos 66 ∷ []) ∷ report false 2 (negℤ (pos 1) ∷ negℤ (pos 66) ∷ []) ∷ [])
 
+-- 02, Job 5: the standing one is the other, so that State One holds the trigger back; "Marks and changes still cover all states"
+unfoldable pub otherHalf : Case
+otherHalf =
+    row
+    (given (0xFFFF ∷ 0xFFFF ∷ []) (1 ∷ 2 ∷ []) (0 ∷ 0 ∷ []) 0 (2 ∷ []) [] [])
+    (standing 1 0 ∷ standing 2 0 ∷ firing ∷ [])
+    (report false 1 (pos 2 ∷ []) ∷ says false ∷ says true ∷ says false ∷ [])
+
+-- state 2 is unreached and links to State One: whether it stands or not, the trigger fires
+unfoldable pub linksBack : Case
+linksBack =
+    row
+    (given (0xFFFF ∷ 0xFFFF ∷ []) (1 ∷ 2 ∷ []) (0 ∷ 1 ∷ []) 0 (1 ∷ 2 ∷ []) [] [])
+    (edit insertion 1 0 ∷ edit deletion 1 0 ∷ firing ∷ [])
+    (report true 2 (pos 1 ∷ []) ∷ report true 1 (pos 66 ∷ []) ∷ report true 1 (negℤ (pos 66) ∷ []) ∷ says true ∷ [])
+
+-- a ring of states 2 and 3 away from State One, which links to itself: standing, the ring fires nothing, and broken it holds nothing back
+unfoldable pub ringAway : Case
+ringAway =
+    row
+    (given (0xFFFF ∷ 0xFFFF ∷ 0xFFFF ∷ []) (1 ∷ 2 ∷ 3 ∷ []) (1 ∷ 4 ∷ 2 ∷ []) 0 (1 ∷ 2 ∷ 3 ∷ []) (1 ∷ 2 ∷ []) (2 ∷ 1 ∷ []))
+    (firing ∷ edit insertion 0 0 ∷ edit deletion 1 2 ∷ firing ∷ order ∷ [])
+    (report false 3 (pos 66 ∷ pos 131 ∷ [])
+    ∷ says false
+    ∷ report true 1 (pos 1 ∷ [])
+    ∷ report true 2 (negℤ (pos 66) ∷ negℤ (pos 131) ∷ [])
+    ∷ says true
+    ∷ lists (1 ∷ 2 ∷ 3 ∷ [])
+    ∷ [])
+
+-- every state reached, by a chain of three: one of them nowhere holds the trigger back, as before
+unfoldable pub chain : Case
+chain =
+    row
+    (given (0xFFFF ∷ 0xFFFF ∷ 0xFFFF ∷ []) (1 ∷ 2 ∷ 3 ∷ []) (2 ∷ 4 ∷ 0 ∷ []) 0 (1 ∷ 2 ∷ 3 ∷ []) (0 ∷ []) (1 ∷ []))
+    (firing ∷ edit insertion 1 2 ∷ firing ∷ [])
+    (report false 3 (pos 131 ∷ []) ∷ says false ∷ report true 2 (pos 1 ∷ pos 66 ∷ []) ∷ says true ∷ [])
+
 -- the session and the cases that 01 marks, and those of the requests
 unfoldable pub cases : List Case
-cases = session ∷ alone ∷ nowhere ∷ loop ∷ ring ∷ spare ∷ unmasked ∷ full ∷ half ∷ hunted ∷ turned ∷ blank ∷ blankRing ∷ []
+cases = session ∷ alone ∷ nowhere ∷ loop ∷ ring ∷ spare ∷ unmasked ∷ full ∷ half ∷ hunted ∷ turned ∷ blank ∷ blankRing ∷ otherHalf ∷ linksBack ∷ ringAway ∷ chain ∷ []

@@ -1,5 +1,5 @@
--- 02, Job 9, "Answers that can change are those on a trigger with an inverted state of mask zero, refusal 10 included": saved sessions that hold such a state,
--- as rows of one list with one fact over all rows. It is proved in proofs/Reopened.
+-- Sessions with marks of their own, as rows of one list with one fact over all rows. It is proved in proofs/Reopened. First those saved before 02, Job 9,
+-- "Answers that can change are those on a trigger with an inverted state of mask zero, refusal 10 included"; then those that show of which states Job 5 asks a mark.
 use Prim.Native.Nat.{ℕ, _-_}
 use mathlib.Core.Path.{_≡_}
 use mathlib.Core.Bool.{Bool, true, false, _&&_}
@@ -86,5 +86,31 @@ unmarkedRing = record {
   fresh = true;
 }
 
+-- 02, Job 5, of marks that are no simulation: State One and what it links to are marked, and the end of the chain is not, so it holds the trigger back
+unfoldable pub unfollowed : Saved
+unfollowed = record {
+  given = given (0xFFFF ∷ 0xFFFF ∷ 0xFFFF ∷ []) (1 ∷ 2 ∷ 3 ∷ []) (2 ∷ 4 ∷ 0 ∷ []) 0 (1 ∷ 2 ∷ 3 ∷ []) [] [];
+  marks = 1 ∷ 2 ∷ 0 ∷ [];
+  fitted = true;
+  state = 2;
+  node = 1;
+  stood = true;
+  fired = false;
+  fresh = false;
+}
+
+-- the same with the third state left unlinked: it holds nothing back
+unfoldable pub unlinked : Saved
+unlinked = record {
+  given = given (0xFFFF ∷ 0xFFFF ∷ 0xFFFF ∷ []) (1 ∷ 2 ∷ 3 ∷ []) (2 ∷ 0 ∷ 0 ∷ []) 0 (1 ∷ 2 ∷ 3 ∷ []) [] [];
+  marks = 1 ∷ 2 ∷ 0 ∷ [];
+  fitted = true;
+  state = 3;
+  node = 2;
+  stood = false;
+  fired = true;
+  fresh = true;
+}
+
 unfoldable pub savedCases : List Saved
-savedCases = marked ∷ unmarked ∷ unmarkedRing ∷ []
+savedCases = marked ∷ unmarked ∷ unmarkedRing ∷ unfollowed ∷ unlinked ∷ []

@@ -142,10 +142,5 @@ module _ (t t' : Trigger) (count : states t ≡ states t') (links : t .links ≡
       (visit-same (states t) 0 [] ∙ ap (λ (n : ℕ). visit t' n 0 []) count)
 
 module _ (xs : List ℕ) (h : inLayout xs ≡ true) where
-  pub links-long : (0 < length (triggerOf xs .links)) × (length (triggerOf xs .links) ≤ 16)
-  links-long =
-      let f = layout-facts xs h .trigger in
-      rw (f .links) (f .some, f .few)
-
   pub asked-order : order (linkedBy (triggerOf xs .links)) ≡ order (triggerOf xs)
   asked-order = order-same (linkedBy (triggerOf xs .links)) (triggerOf xs) (layout-facts xs h .trigger .links) refl

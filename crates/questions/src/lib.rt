@@ -8,7 +8,7 @@ use promises::FiringAnswer;
 use promises::OrderAnswer;
 use promises::Standing;
 use promises::StateOrder;
-use reports::all_marked;
+use reports::fires_now;
 use session_parts::links_of;
 use walk_order::ordered;
 
@@ -69,9 +69,7 @@ pub fn fires(session: &[u32]) -> FiringAnswer
     if broken != 0 {
         return FiringAnswer::Refused(broken);
     }
-    let states = session[0];
-    let end = session::MARKS_AT + session[1] as usize;
-    if all_marked(&session[session::MARKS_AT..end], states) {
+    if fires_now(session) {
         FiringAnswer::Now(Firing::Fires)
     } else {
         FiringAnswer::Now(Firing::Silent)

@@ -4,16 +4,18 @@ use Rattle.session.proofs.Tables.{part-from}
 use Prim.Native.Nat.{ℕ, _+_, _-_, _≤_}
 use native.Mathlib.Nat.{mul-le-mul-left}
 use native.Mathlib.Omega.{arith}
-use mathlib.Core.Path.{_≡_, sym, _∙_, ap}
-use mathlib.Core.Bool.{true}
+use mathlib.Core.Path.{_≡_, refl, sym, _∙_, ap, ap₂}
+use mathlib.Core.Bool.{Bool, true, not, _||_}
 use mathlib.Core.List.{List}
 use lib.ListN.{length, getD, take, drop, length-take, length-drop}
 use lib.Seq.{length-take-le, getD-take, take-take}
-use Rattle.simulation.specs.Sets.{allBelow, anyBelow}
+use Rattle.simulation.specs.Sets.{Set, allBelow, anyBelow}
 use Rattle.simulation.proofs.Edges.{any-same, all-same}
 use Rattle.bits.specs.Word.{members}
 use Rattle.session.specs.Trigger.{Trigger, Graph, states, nodes}
+use Rattle.session.specs.Reached.{reached, linkedBy}
 use Rattle.session.specs.Layout.{triggerOf, graphOf, marksOf, inLayout}
+use Rattle.session.proofs.Reached.{reached-same}
 use Rattle.session.proofs.Decoded.{LayoutFacts, layout-facts, layout-limits}
 use Rattle.pair_tables.specs.Tables.{marked}
 use Rattle.listing.specs.Changes.{changes}
@@ -34,21 +36,29 @@ module _ (xs : List ℕ) (h : inLayout xs ≡ true) where
 
   -- ---- the end of a call
 
-  -- firing is read from the words of the nodes
+  -- firing is read from the words of the nodes, and what is reached from the links
   pub held-fires : (ts : List ℕ) → getD xs 1 0 ≤ length ts
-      → allBelow (getD xs 0 0) (λ u. anyBelow (length (take (getD xs 1 0) ts)) (λ v. members (getD (take (getD xs 1 0) ts) v 0) u))
+      → (let links = triggerOf xs .links in
+      let marks = take (getD xs 1 0) ts in
+      allBelow (length links) (λ u. not (reached (linkedBy links) u) || anyBelow (length marks) (λ v. members (getD marks v 0) u)))
       ≡ fires (triggerOf xs) (graphOf xs) (marked ts)
   unfolding fires
   held-fires ts l =
       let m = getD xs 1 0 in
-      ap (λ (k : ℕ). allBelow k (λ u. anyBelow (length (take m ts)) (λ v. members (getD (take m ts) v 0) u))) (facts .counts .0)
-      ∙ all-same (states (triggerOf xs)) (λ u. anyBelow (length (take m ts)) (λ v. members (getD (take m ts) v 0) u))
-      (λ u. anyBelow (nodes (graphOf xs)) (λ v. members (getD ts v 0) u))
+      let links = t .links in
+      let marks = take m ts in
+      ap₂
+      (λ (k : ℕ) (X : Set). allBelow k (λ u. not (X u) || anyBelow (length marks) (λ v. members (getD marks v 0) u)))
+      (facts .trigger .links)
+      (reached-same (linkedBy links) t (facts .trigger .links) refl)
+      ∙ all-same (states t) (λ u. not (reached t u) || anyBelow (length marks) (λ v. members (getD marks v 0) u))
+      (λ u. not (reached t u) || anyBelow (nodes g) (λ v. members (getD ts v 0) u))
       (λ u i.
-      ap (λ (k : ℕ). anyBelow k (λ v. members (getD (take m ts) v 0) u)) (length-take-le m ts l)
-      ∙ any-same m (λ v. members (getD (take m ts) v 0) u) (λ v. members (getD ts v 0) u)
+      ap (λ (b : Bool). not (reached t u) || b)
+      (ap (λ (k : ℕ). anyBelow k (λ v. members (getD marks v 0) u)) (length-take-le m ts l)
+      ∙ any-same m (λ v. members (getD marks v 0) u) (λ v. members (getD ts v 0) u)
       (λ v k. ap (λ (w : ℕ). members w u) (getD-take m ts v 0 k))
-      ∙ ap (λ (k : ℕ). anyBelow k (λ v. members (getD ts v 0) u)) (facts .counts .1))
+      ∙ ap (λ (k : ℕ). anyBelow k (λ v. members (getD ts v 0) u)) (facts .counts .1)))
 
   -- the list between two tables is the change list
   pub held-changes : (bs cs : List ℕ) → tableChanges (getD xs 0 0) (getD xs 1 0) bs cs ≡ changes (triggerOf xs) (graphOf xs) (marked bs) (marked cs)
@@ -67,11 +77,14 @@ module _ (xs : List ℕ) (h : inLayout xs ≡ true) where
       )
 
   -- firing, as the mark words of the nodes tell it
-  pub held-firing : (let marks = take (marksAt + getD xs 1 0 - marksAt) (drop marksAt xs) in
-      allBelow (getD xs 0 0) (λ u. anyBelow (length marks) (λ v. members (getD marks v 0) u)))
+  pub held-firing : (let links = triggerOf xs .links in
+      let marks = take (marksAt + getD xs 1 0 - marksAt) (drop marksAt xs) in
+      allBelow (length links) (λ u. not (reached (linkedBy links) u) || anyBelow (length marks) (λ v. members (getD marks v 0) u)))
       ≡ fires (triggerOf xs) (graphOf xs) (marksOf xs)
   held-firing =
-      ap (λ (ws : List ℕ). allBelow (getD xs 0 0) (λ u. anyBelow (length ws) (λ v. members (getD ws v 0) u)))
+      let links = t .links in
+      ap
+      (λ (ws : List ℕ). allBelow (length links) (λ u. not (reached (linkedBy links) u) || anyBelow (length ws) (λ v. members (getD ws v 0) u)))
       (part-from xs marksAt (getD xs 1 0) ∙ sym (take-take (getD xs 1 0) 512 (drop marksAt xs) (layout-limits xs h .few-nodes)))
       ∙ held-fires (take 512 (drop marksAt xs)) (omega (arith, length-take 512 (drop marksAt xs), length-drop marksAt xs, layout-limits xs h))
       ∙ ap (fires t g) (held-marks xs h)

@@ -1,3 +1,4 @@
 -- What a report reads from a session.
+pub mod Fired
 pub mod Held
 pub mod Reported

@@ -1,14 +1,16 @@
 // What a load and an edit share: rule 3, whether the trigger fires, the list handed back, and the report of a call.
 ghost use mathlib.Core.Path.{_≡_};
-ghost use mathlib.Core.Bool.{_||_, true};
+ghost use mathlib.Core.Bool.{not, _||_, true};
 ghost use lib.Dec.{ltb};
 ghost use Rattle.session.specs.Limits.{fixedSize, maxChanges, maxNodes};
-ghost use Prim.Native.Nat.{_≤_};
+ghost use Prim.Native.Nat.{_<_, _≤_};
 ghost use lib.ListN.{length, getD};
 ghost use Rattle.simulation.specs.Sets.{allBelow, anyBelow};
 ghost use Rattle.bits.specs.Word.{members};
+ghost use Rattle.session.specs.Reached.{reached, linkedBy};
 ghost use Rattle.session.specs.Layout.{triggerOf, graphOf, inLayout, marksOf};
 ghost use Rattle.pair_tables.specs.Tables.{marked};
+ghost use Rattle.promises.specs.Standing.{fires};
 ghost use Rattle.promises.specs.Answers.{firing, told, changesTold, handedBack};
 ghost use Rattle.listing.specs.Changes.{changes};
 ghost use Rattle.promises.specs.Promises.{Reported};
@@ -17,6 +19,7 @@ use change_lists::write_changes;
 use promises::Answer;
 use promises::Firing;
 use promises::Report;
+use session_parts::links_of;
 
 // Rule 3: the memory or the room is too short.
 pub fn too_short(memory: usize, room: usize) -> bool
@@ -25,12 +28,28 @@ pub fn too_short(memory: usize, room: usize) -> bool
     memory < session::FIXED_SIZE || room < session::MAX_CHANGES
 }
 
-// Whether each of the states is marked in some word.
-pub fn all_marked(words: &[u32], states: u32) -> bool
-    requires { ⌜ states ≤ 32 ⌝ }
-    ensures { λ r. ⌜ r ≡ allBelow states (λ u. anyBelow (length (now (words .entry))) (λ v. members (getD (now (words .entry)) v 0) u)) ⌝ }
+// Whether each state that these links reach from State One is marked in some word. No link is followed where every state is marked, or State One is not.
+pub fn reached_marked(words: &[u32], links: &[u32]) -> bool
+    requires { ⌜ (0 < length (now links)) × (length (now links) ≤ 32) ⌝ }
+    ensures { λ r. ⌜ r ≡ allBelow (length (now (links .entry))) (λ u. not (reached (linkedBy (now (links .entry))) u) || anyBelow (length (now (words .entry))) (λ v. members (getD (now (words .entry)) v 0) u)) ⌝ }
 {
-    bits::subset(bits::below(states), bits::gathered(words))
+    let marked = bits::gathered(words);
+    if bits::subset(bits::below(links.len() as u32), marked) {
+        return true;
+    }
+    if !bits::has(marked, 0) {
+        return false;
+    }
+    bits::subset(links::reached(links), marked)
+}
+
+// Whether the trigger fires, by the marks that the session holds.
+pub fn fires_now(session: &[u32]) -> bool
+    requires { ⌜ inLayout (now session) ≡ true ⌝ }
+    ensures { λ r. ⌜ r ≡ fires (triggerOf (now (session .entry))) (graphOf (now (session .entry))) (marksOf (now (session .entry))) ⌝ }
+{
+    let end = session::MARKS_AT + session[1] as usize;
+    reached_marked(&session[session::MARKS_AT..end], links_of(session))
 }
 
 // Whether a report says that the trigger fires.
@@ -70,9 +89,7 @@ pub fn answered(session: &[u32], trials: u32, changes: u32) -> Answer
     requires { ⌜ inLayout (now session) ≡ true ⌝ }
     ensures { λ r. ⌜ Tells (now (session .entry)) trials changes r ⌝ }
 {
-    let states = session[0];
-    let end = session::MARKS_AT + session[1] as usize;
-    if all_marked(&session[session::MARKS_AT..end], states) {
+    if fires_now(session) {
         Answer::Accepted(Report {
             firing: Firing::Fires,
             trials,

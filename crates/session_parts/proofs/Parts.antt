@@ -1,4 +1,4 @@
--- The mark words of a session in layout are those of the marks that it holds.
+-- A session in layout: how many links there are, and the mark words are those of the marks that it holds.
 use Prim.Native.Nat.{ℕ, _+_, _<_, _≤_}
 use native.Mathlib.Omega.{arith}
 use mathlib.Core.Path.{_≡_, sym, _∙_, ap, fun-ext}
@@ -13,7 +13,7 @@ use Rattle.simulation.proofs.Sets.{same, refuted, and-make, and-r}
 use Rattle.simulation.proofs.Search.{lt-or-le}
 use Rattle.bits.specs.Word.{members}
 use Rattle.bits.proofs.Words.{word-members}
-use Rattle.session.specs.Limits.{marksAt, fixedSize}
+use Rattle.session.specs.Limits.{maxStates, marksAt, fixedSize}
 use Rattle.session.specs.Trigger.{Trigger, Graph, states, nodes}
 use Rattle.session.specs.Layout.{markWord, triggerOf, graphOf, marksOf, inLayout}
 use Rattle.session.proofs.Decoded.{LayoutFacts, layout-facts, layout-limits, layout-whole}
@@ -24,6 +24,10 @@ use Rattle.pair_tables.proofs.Tabling.{unmarked}
 module _ (xs : List ℕ) (h : inLayout xs ≡ true) where
   abbrev facts : LayoutFacts xs
   facts = layout-facts xs h
+
+  -- there are links of at least one state, and of at most 16
+  pub held-links : (0 < length (triggerOf xs .links)) × (length (triggerOf xs .links) ≤ maxStates)
+  held-links = rw (facts .trigger .links) (facts .trigger .some, facts .trigger .few)
 
   -- the mark words are those of the marks that are held
   abbrev t : Trigger

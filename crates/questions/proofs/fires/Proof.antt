@@ -1,14 +1,10 @@
--- `fires` meets its contract: where no rule is broken, firing is read from the marks of the nodes.
+-- `fires` meets its contract: where no rule is broken, the answer tells the firing that was read.
 use borrow.Author.Needs.{needs}
-use native.Mathlib.Omega.{arith}
 use mathlib.Core.Path.{_≡_, sym, _∙_}
 use mathlib.Core.Bool.{true}
-use Rattle.session.specs.Layout.{triggerOf, graphOf, marksOf, inLayout}
-use Rattle.session.proofs.Decoded.{Bounded, layout-limits}
-use Rattle.promises.specs.Standing as standing
+use Rattle.session.specs.Layout.{inLayout}
 use Rattle.questions.proofs.Asked.{answer-refused, answer-accepted}
 use Rattle.promises.proofs.Passed.{question-passed}
-use Rattle.reports.proofs.Held.{held-firing}
 use Rattle.questions.proofs.fires.Statement.{statement}
 use Rattle.questions.proofs.fires.Tie as tie
 
@@ -22,62 +18,18 @@ returns c = answer-refused _ _ (c .before .question-rule .ensures) _ (c .if1 .ta
 passed : (c : tie.Else1) → inLayout (c .before .before .before .args .session .now) ≡ true
 passed c = question-passed _ _ (sym (c .before .question-rule .ensures) ∙ c .if1 .left) .0
 
-bounded : (c : tie.Else1) → Bounded (c .before .before .before .args .session .now)
-bounded c = layout-limits _ (passed c)
-
-shared-slice-read-states : tie.Need-shared-slice-read-states
-shared-slice-read-states c = omega (arith, bounded (c .before))
-
-shared-slice-read-end : tie.Need-shared-slice-read-end
-shared-slice-read-end c = omega (arith, bounded (c .before .before))
-
-cast-end : tie.Need-cast-end
-cast-end c = omega (arith, bounded (c .before .before))
-
-add-end : tie.Need-add-end
-add-end c = omega (arith, bounded (c .before .before))
-
-sub-all-marked : tie.Need-sub-all-marked
-sub-all-marked c = search needs
-
-part-all-marked-start : tie.Need-part-all-marked-start
-part-all-marked-start c = search needs
-
-part-all-marked-end : tie.Need-part-all-marked-end
-part-all-marked-end c = omega (arith, bounded (c .before .before))
-
-all-marked-requires : tie.Need-all-marked-requires
-all-marked-requires c κs = omega (arith, bounded (c .before .before .before))
-
--- firing, as it was read
-read : (c : tie.After-all-marked)
-    → let xs = c .before .before .before .before .before .before .before .args .session .now in
-    c .all-marked .result ≡ standing.fires (triggerOf xs) (graphOf xs) (marksOf xs)
-read c = c .all-marked .ensures ∙ held-firing _ (passed (c .before .before .before .before))
+fires-now-requires : tie.Need-fires-now-requires
+fires-now-requires c κs = passed c
 
 returns-2 : tie.Need-returns-2
 returns-2 c =
-    let e = c .before .before .before .before .before in
-    answer-accepted _ _ (e .before .question-rule .ensures) _ _ (e .if1 .left) (sym (c .if2 .taken) ∙ read (c .before))
+    let e = c .before .before in
+    answer-accepted _ _ (e .before .question-rule .ensures) _ _ (e .if1 .left) (sym (c .if2 .taken) ∙ c .before .fires-now .ensures)
 
 returns-3 : tie.Need-returns-3
 returns-3 c =
-    let e = c .before .before .before .before .before in
-    answer-accepted _ _ (e .before .question-rule .ensures) _ _ (e .if1 .left) (sym (c .if2 .left) ∙ read (c .before))
+    let e = c .before .before in
+    answer-accepted _ _ (e .before .question-rule .ensures) _ _ (e .if1 .left) (sym (c .if2 .left) ∙ c .before .fires-now .ensures)
 
 pub fires-spec : {M : Type 1} → statement M
-fires-spec =
-    tie.close
-    (tie.spec
-    question-rule-requires
-    returns
-    shared-slice-read-states
-    shared-slice-read-end
-    cast-end
-    add-end
-    sub-all-marked
-    part-all-marked-start
-    part-all-marked-end
-    all-marked-requires
-    returns-2
-    returns-3)
+fires-spec = tie.close (tie.spec question-rule-requires returns fires-now-requires returns-2 returns-3)

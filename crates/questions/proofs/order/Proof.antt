@@ -9,7 +9,8 @@ use Rattle.session.specs.Reached.{linkedBy}
 use Rattle.session.specs.Layout.{table, section, inLayout}
 use Rattle.session.proofs.Decoded.{Bounded, layout-limits, layout-facts}
 use Rattle.listing.specs.Order.{order}
-use Rattle.questions.proofs.Asked.{answer-refused, answer-accepted, none-listed, all-listed, links-long, asked-order}
+use Rattle.questions.proofs.Asked.{answer-refused, answer-accepted, none-listed, all-listed, asked-order}
+use Rattle.session_parts.proofs.Parts.{held-links}
 use Rattle.promises.proofs.Passed.{question-passed}
 use Rattle.questions.proofs.order.Statement.{statement}
 use Rattle.questions.proofs.order.Tie as tie
@@ -43,7 +44,7 @@ links-of-requires : tie.Need-links-of-requires
 links-of-requires c κs = passed (c .before)
 
 ordered-requires : tie.Need-ordered-requires
-ordered-requires c κs = rw (c .links-of .ensures) (links-long _ (passed (c .before .before)))
+ordered-requires c κs = rw (c .links-of .ensures) (held-links _ (passed (c .before .before)))
 
 returns-2 : tie.Need-returns-2
 returns-2 c =
