@@ -18,7 +18,8 @@ visit t (suc depth) u xs =
     cond (elem u xs) xs
     (fold (states t) (λ u' ys. cond (linked t u u') (visit t depth u' ys) ys) (xs ++ (u ∷ [])))
 
--- "visit State One"; "States that the visit of State One does not reach follow in ascending number, without visits of their own"
+-- "visit State One"; "States that the visit of State One does not reach follow in ascending number, without visits of their own".
+-- What that visit writes is `reached` of session: `visited-reached` in proofs/Orders.
 unfoldable pub order : Trigger → List ℕ
 order t =
     map (λ u. u + 1)

@@ -1,19 +1,23 @@
 -- 02, Job 5: the trigger cut down to its reached states has their marks, and document 000's rule on it decides firing. And what firing was before.
-use Prim.Native.Nat.{ℕ, _<_}
+use Prim.Native.Nat.{ℕ, zero, suc, _^_, _<_}
 use native.Mathlib.Omega.{arith}
 use mathlib.Core.Path.{_≡_, refl, sym, _∙_, ap, subst}
 use mathlib.Core.Logic.{_↔_}
 use mathlib.Core.Bool.{Bool, true, _&&_}
 use lib.ListN.{length, getD}
+use lib.Pow.{pow-pos}
 use borrow.Author.Tests.{lt-ltb}
 use Rattle.simulation.specs.Sets.{anyBelow}
 use Rattle.simulation.proofs.Sets.{same, any-make, any-take, all-make, all-take}
-use Rattle.simulation.proofs.Ordered.{elem-at, elem-index, ascending, listed-take, listed-make, listed-rises}
+use Rattle.simulation.proofs.Ordered.{elem-at, elem-index, ascending, listed-take, listed-make, listed-rises, listed-short}
 use Rattle.bits.specs.Word.{members, word}
-use Rattle.bits.proofs.Words.{word-members}
+use Rattle.bits.proofs.Words.{word-below, word-members}
 use Rattle.session.specs.Trigger.{Trigger, Graph, Marks, states, nodes, linked, edge, admits}
-use Rattle.session.specs.Reached.{Reached, reached}
-use Rattle.session.proofs.Tables.{length-table, getD-table}
+use Rattle.session.specs.Limits.{wordBits}
+use Rattle.session.specs.Reached.{Reached, one, link, reached}
+use Rattle.session.specs.Layout.{validTrigger}
+use Rattle.session.proofs.Tables.{length-table, getD-table, table-below, below-at}
+use Rattle.session.proofs.Valid.{trigger-facts, trigger-valid}
 use Rattle.session.proofs.Reached.{reached-inside, reached-one, reached-link, reached-iff}
 use Rattle.promises.specs.Standing.{Simulation, stands, fires, kept, stateAt, cut, Matched, Compared}
 use Rattle.promises.specs.Former.{firedFormerly}
@@ -59,6 +63,34 @@ module _ (t : Trigger) where
         word-members n (λ j. members (t .inverted) (stateAt t j)) j,
         lt-ltb j n l,
       )
+
+  -- it is a trigger of the scope
+  cut-valid : validTrigger t ≡ true → validTrigger (cut t) ≡ true
+  unfolding cut kept
+  cut-valid v =
+      let f = trigger-facts t v in
+      let w = kept-make 0 (reached-one t (f .some)) in
+      let fit = pow-pos wordBits in
+      trigger-valid (cut t) record {
+        some = omega (arith, cut-count, w .1);
+        few = omega (arith, cut-count, listed-short (reached t) (states t), f .few);
+        values = length-table n (λ j. getD (t .values) (stateAt t j) 0) ∙ sym cut-count;
+        links = length-table n (λ j. word n (λ i. linked t (stateAt t j) (stateAt t i))) ∙ sym cut-count;
+        masks-fit = table-below (2 ^ wordBits) n (λ j. getD (t .masks) (stateAt t j) 0) (λ j. below-at (2 ^ wordBits) (t .masks) (f .masks-fit) fit (stateAt t j));
+        values-fit = table-below (2 ^ wordBits) n (λ j. getD (t .values) (stateAt t j) 0) (λ j. below-at (2 ^ wordBits) (t .values) (f .values-fit) fit (stateAt t j));
+        links-fit = rw cut-count
+            (table-below (2 ^ n) n (λ j. word n (λ i. linked t (stateAt t j) (stateAt t i))) (λ j. word-below n (λ i. linked t (stateAt t j) (stateAt t i))));
+        inverted-fit = rw cut-count (word-below n (λ j. members (t .inverted) (stateAt t j)));
+      }
+
+  -- each of its states is reached in it
+  cut-chain : {u : ℕ} → Reached t u → (j : ℕ) → j < length (kept t) → stateAt t j ≡ u → Reached (cut t) j
+  cut-chain (one l) zero i e = one (rw cut-count i)
+  cut-chain (one l) (suc j) i e = let r = kept-rises 0 (suc j) (omega arith) i in absurd (omega (arith, r, e))
+  cut-chain (link {u} u' c l k) j i e =
+      let w = kept-make u (reached-iff t u .1 c) in
+      link j (cut-chain c (w .0) (w .1) (w .2)) (rw cut-count i)
+      (cut-linked (w .0) j (w .1) i ∙ rw (w .2, e) k)
 
 -- ---- "cutting alters no mark of a reached state"
 
@@ -136,6 +168,10 @@ module _ (t : Trigger) (g : Graph) where
       λ w. reached-iff t u .0 (subst (λ (x : ℕ). reached t x ≡ true) (w .2) (kept-take t (w .0) (rw (cut-count t) at (w .1)))),
     );
     once = λ i j l k. kept-rises t i j l (rw (cut-count t) at k);
+    again = λ j l.
+        let i : j < length (kept t) = rw (cut-count t) at l in
+        cut-chain t (reached-iff t (stateAt t j) .0 (kept-take t j i)) j i refl;
+    valid = cut-valid t;
     marks = cut-marks;
     firing = λ some. (
       λ f.

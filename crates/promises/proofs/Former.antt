@@ -1,5 +1,5 @@
--- 02, Jobs 1 and 9, the other way round: a trigger whose admissions are what they were has the marks, firing, layout, trial sets and answers that it had. All
--- of it follows from the one equation of admission.
+-- 02, Jobs 1 and 9, the other way round: a trigger whose admissions are what they were has the marks, layout, trial sets and answers that it had, and
+-- firing is told of these marks (by the rule of Job 5; where it differs from the former one is in proofs/Cut). All of it follows from the one equation of admission.
 use Prim.Native.Nat.{ℕ, _^_}
 use mathlib.Core.Path.{_≡_, ap, _∙_}
 use mathlib.Core.Bool.{true, false, not, _&&_, and-true}

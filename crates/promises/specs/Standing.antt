@@ -13,7 +13,7 @@ use Rattle.simulation.specs.Pattern.{paired, system, best}
 use Rattle.bits.specs.Word.{members, word}
 use Rattle.session.specs.Trigger.{Trigger, Graph, Marks, states, nodes, linked, edge, admits, pattern}
 use Rattle.session.specs.Reached.{Reached, reached}
-use Rattle.session.specs.Layout.{table}
+use Rattle.session.specs.Layout.{table, validTrigger}
 
 -- "A simulation is a set of pairs (state u, node v) such that u admits v, and for each link from u to u' there is an edge from v to some v'
 -- with (u', v') in the set."
@@ -59,9 +59,12 @@ Matched t g u v = (X : Marks) × Match t g (λ u v. X u v ≡ true) × (X u v �
 -- 02, Job 5, "The outside comparison is document 000's rule on the trigger cut down to its reached states": it is proved in proofs/Cut of every trigger
 -- and graph.
 pub record Compared (t : Trigger) (g : Graph) : Type 0 where
-  -- the states of the cut trigger are those reached, each once
+  -- it is a trigger that may be loaded
+  pub valid : validTrigger t ≡ true → validTrigger (cut t) ≡ true
+  -- its states are those reached, each once, and there too each is reached
   pub all : (u : ℕ) → Reached t u ↔ ((j : ℕ) × (j < states (cut t)) × (stateAt t j ≡ u))
   pub once : (i j : ℕ) → i < j → j < states (cut t) → stateAt t i < stateAt t j
+  pub again : (j : ℕ) → j < states (cut t) → Reached (cut t) j
   -- "cutting alters no mark of a reached state"
   pub marks : (j v : ℕ) → j < states (cut t) → stands (cut t) g j v ≡ stands t g (stateAt t j) v
   -- the trigger fires exactly when 000's relation is not empty, and then that relation is the marks of the reached states

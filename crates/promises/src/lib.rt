@@ -1,6 +1,6 @@
 // The types in which the engine's calls answer. What each call promises is defined in specs/.
 
-// Whether every state stands at some node.
+// Whether every state that is reached from State One stands at some node.
 pub enum Firing {
     Fires,
     Silent,

@@ -85,6 +85,10 @@ pub below-make : (n : ℕ) (xs : List ℕ) → ((i : ℕ) → i < length xs → 
 unfolding below
 below-make n xs h = all-make (length xs) (λ i. ltb (getD xs i 0) n) (λ i l. lt-ltb (getD xs i 0) n (h i l))
 
+pub table-below : (n k : ℕ) (f : ℕ → ℕ) → ((i : ℕ) → f i < n) → below n (table k f) ≡ true
+table-below n k f h =
+    below-make n (table k f) (λ i l. let here = getD-table k f i (rw (length-table k f) at l) in omega (arith, here, h i))
+
 -- also past the end, where zero is read
 pub below-at : (n : ℕ) (xs : List ℕ) → below n xs ≡ true → 0 < n → (i : ℕ) → getD xs i 0 < n
 below-at n xs h some i =

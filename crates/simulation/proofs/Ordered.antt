@@ -8,7 +8,7 @@ use mathlib.Core.Logic.{_⊎_, inl, inr, ⊎-elim}
 use mathlib.Core.Bool.{Bool, true, false, not, _&&_, _||_, cond, or-comm, or-assoc, or-false, and-true, and-false}
 use mathlib.Core.List.{List, [], _∷_, _++_}
 use lib.Dec.{ltb, leb, eqb}
-use lib.ListN.{length, getD}
+use lib.ListN.{length, getD, length-append}
 use borrow.Author.Tests.{ltb-true, ltb-false, lt-ltb, leb-true, leb-false, eqb-true, eqb-false, eq-eqb}
 use Rattle.simulation.specs.Search.{first}
 use Rattle.simulation.specs.Sets.{Set}
@@ -296,3 +296,12 @@ module _ (X : Set) where
       alone : (b : Bool) → Rising (cond b (n ∷ []) [])
       alone true = (λ y e. clash e refl, tt)
       alone false = tt
+
+  pub listed-short : (n : ℕ) → length (listOf n X) ≤ n
+  unfolding listOf
+  listed-short zero = omega arith
+  listed-short (suc n) = omega (arith, length-append (listOf n X) (cond (X n) (n ∷ []) []), listed-short n, short (X n))
+    where
+      short : (b : Bool) → length (cond b (n ∷ []) []) ≤ 1
+      short true = omega arith
+      short false = omega arith
