@@ -12,7 +12,7 @@ use Rattle.simulation.proofs.Sets.{same, any-make, any-take, all-make, all-take
 use Rattle.simulation.proofs.Ordered.{elem-at, elem-index, ascending, listed-take, listed-make, listed-rises, listed-short}
 use Rattle.bits.specs.Word.{members, word}
 use Rattle.bits.proofs.Words.{word-below, word-members}
-use Rattle.session.specs.Trigger.{Trigger, Graph, Marks, states, nodes, linked, edge, admits}
+use Rattle.session.specs.Trigger.{Trigger, Graph, Marks, states, nodes, linked, admits}
 use Rattle.session.specs.Limits.{wordBits}
 use Rattle.session.specs.Reached.{Reached, one, link, reached}
 use Rattle.session.specs.Layout.{validTrigger}

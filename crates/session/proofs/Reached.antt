@@ -1,12 +1,12 @@
 -- The computed set of reached states: it has just the states to which a chain of links leads from State One.
 use Prim.Native.Nat.{ℕ, _<_}
-use mathlib.Core.Path.{_≡_, refl, ap, ap₂}
+use mathlib.Core.Path.{_≡_, refl, ap₂}
 use mathlib.Core.Logic.{⊎-elim, _↔_}
-use mathlib.Core.Bool.{Bool, true, _&&_, _||_}
+use mathlib.Core.Bool.{true, _&&_, _||_}
 use mathlib.Core.List.{List}
 use lib.Dec.{eqb}
 use lib.ListN.{getD}
-use borrow.Author.Tests.{eqb-true, eq-eqb}
+use borrow.Author.Tests.{eqb-true}
 use Rattle.simulation.specs.Sets.{Set, In, anyBelow, grown}
 use Rattle.simulation.proofs.Sets.{and-make, and-l, and-r, or-l, or-r, or-take, any-make, any-take, grown-least, grown-inside, grown-closed}
 use Rattle.bits.specs.Word.{members}
