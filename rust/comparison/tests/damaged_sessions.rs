@@ -9,9 +9,10 @@ use comparison::random::seed;
 use comparison::subject::{accepted, answered, refused};
 use comparison::{Case, Engine, Random, Subject, Twin};
 use reference::changes::changes;
+use reference::firing::marks_fire;
 use reference::layout::{held, image};
 use reference::rules::{ROOM, SESSION, delete_rules, insert_rules, question_rules};
-use reference::standing::{admitted, fires, standing, supported_part};
+use reference::standing::{admitted, standing, supported_part};
 use reference::trials::trial_set;
 use reference::walk::walk_order;
 use reference::{Graph, Relation, Report, State, Trigger};
@@ -38,7 +39,7 @@ fn all_calls<S: Subject>(subject: S, session: &[u32], random: &mut Random, label
 
     let answer = subject.fires(session);
     let wanted = match &held {
-        Some((trigger, graph, marks)) => answered(Ok(fires(trigger, graph, marks))),
+        Some((trigger, graph, marks)) => answered(Ok(marks_fire(trigger, graph, marks))),
         None => refused(10),
     };
     assert_eq!(answer, wanted, "{label}: fires");
@@ -128,7 +129,7 @@ fn edit<S: Subject>(
     } else {
         trials = list.len();
     }
-    let report = Report { fires: fires(trigger, &after, &left), trials, changes: list };
+    let report = Report { fires: marks_fire(trigger, &after, &left), trials, changes: list };
     assert_eq!(answer, accepted(&report), "{label}: answer");
 }
 

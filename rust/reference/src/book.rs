@@ -1,8 +1,9 @@
 //! The book: trigger, samples and edges as the calls give them, and what stands.
 
 use crate::changes::changes;
+use crate::firing::fires;
 use crate::rules::{Given, delete_rules, insert_rules, load_rules, question_rules};
-use crate::standing::{admitted, fires, standing};
+use crate::standing::{admitted, standing};
 use crate::trials::trial_set;
 use crate::walk::walk_order;
 use crate::{Graph, Relation, Trigger};
@@ -41,7 +42,7 @@ impl Book {
         let nothing = Relation::of(trigger.states.len(), graph.nodes(), |_, _| false);
         let standing = standing(&trigger, &graph);
         let report = Report {
-            fires: fires(&trigger, &graph, &standing),
+            fires: fires(&trigger, &graph),
             trials: admitted(&trigger, &graph).size(),
             changes: changes(&nothing, &standing),
         };
@@ -75,7 +76,7 @@ impl Book {
 
     /// Whether the trigger fires.
     pub fn fires(&self) -> bool {
-        fires(&self.trigger, &self.graph, &self.standing)
+        fires(&self.trigger, &self.graph)
     }
 
     /// The walk order.

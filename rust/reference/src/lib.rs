@@ -1,10 +1,13 @@
 //! The plain fixed-point program: everything the engine answers, computed afresh from the definitions.
 //!
 //! It keeps no index and corrects nothing. Standing is what is left when unsupported pairs are removed until none is
-//! left; the trial set is what is there when pairs are added until none is to add. It shares no code with the engine.
+//! left; the trial set is what is there when pairs are added until none is to add; firing is told of the trigger cut down
+//! to its reached states, with a fixed point of its own. It shares no code with the engine.
 
 pub mod book;
 pub mod changes;
+pub mod cut;
+pub mod firing;
 pub mod frames;
 pub mod graph;
 pub mod layout;

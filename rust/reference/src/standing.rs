@@ -1,4 +1,4 @@
-//! The greatest simulation, and firing.
+//! The greatest simulation.
 
 use crate::{Graph, Relation, Trigger};
 
@@ -31,10 +31,4 @@ pub fn supported_part(trigger: &Trigger, graph: &Graph, mut relation: Relation) 
             return relation;
         }
     }
-}
-
-/// Whether every state has a node in the relation.
-pub fn fires(trigger: &Trigger, graph: &Graph, relation: &Relation) -> bool {
-    let states = 0..trigger.states.len();
-    states.into_iter().all(|state| (0..graph.nodes()).any(|node| relation.has(state, node)))
 }

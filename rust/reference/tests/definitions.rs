@@ -41,6 +41,12 @@ fn union_of_simulations(trigger: &Trigger, graph: &Graph) -> u32 {
     sets.fold(0, |union, set| union | set)
 }
 
+/// Whether State One has a node in a set of pairs, and state 2 where State One has a link to it.
+fn reached_have_nodes(trigger: &Trigger, set: u32) -> bool {
+    let has_node = |wanted: usize| relation(set).pairs().any(|(state, _)| state == wanted);
+    has_node(0) && (!trigger.states[0].links.contains(&1) || has_node(1))
+}
+
 /// The intersection of all sets of fresh pairs that hold both clauses of the trial set.
 fn least_trial_set(trigger: &Trigger, graph: &Graph, before: u32, (start, end): (usize, usize)) -> u32 {
     let admitted = admissions(trigger, graph);
@@ -95,7 +101,7 @@ fn book(links: u32, samples: u32, edges: u32, inverted: u32, blank: u16) -> Book
 }
 
 #[test]
-fn standing_trials_and_chains() {
+fn standing_firing_trials_and_chains() {
     for case in 0..1u32 << 16 {
         let (links, samples, edges) = (case & 15, case >> 4 & 15, case >> 8 & 15);
         let (inverted, blank) = (case >> 12 & 3, (case >> 14) as u16);
@@ -103,6 +109,7 @@ fn standing_trials_and_chains() {
         assert_eq!(admitted(&before.trigger, &before.graph), admissions(&before.trigger, &before.graph), "case {case}");
         let stood = bits(&before.standing);
         assert_eq!(stood, union_of_simulations(&before.trigger, &before.graph), "case {case}");
+        assert_eq!(before.fires(), reached_have_nodes(&before.trigger, stood), "case {case}");
         for edge in 0..4u32 {
             let (start, end) = (edge / 2, edge % 2);
             let label = format!("case {case}, edge ({start}, {end})");
@@ -118,6 +125,7 @@ fn standing_trials_and_chains() {
             };
             let stands = bits(&after.standing);
             assert_eq!(stands, union_of_simulations(&after.trigger, &after.graph), "{label}");
+            assert_eq!(report.fires, reached_have_nodes(&after.trigger, stands), "{label}");
             let changed = relation(stood ^ stands);
             assert_eq!(report.changes.len(), changed.size(), "{label}");
             for pair in changed.pairs() {
