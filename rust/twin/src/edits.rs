@@ -55,7 +55,7 @@ pub fn insert(session: &mut [u32], start: u32, end: u32, changes: &mut [i32]) ->
     }
     seeds &= !marks[from] & states.admitting(samples[from]);
     if seeds == 0 {
-        return accepted(shape.marked == states.all(), 0, 0);
+        return accepted(states.fires(shape.marked), 0, 0);
     }
 
     let callers = states.callers();
@@ -75,7 +75,7 @@ pub fn insert(session: &mut [u32], start: u32, end: u32, changes: &mut [i32]) ->
         alive
     });
     if !alive {
-        return accepted(shape.marked == states.all(), tried, 0);
+        return accepted(states.fires(shape.marked), tried, 0);
     }
 
     let mut began = NodeSet::default();
@@ -90,7 +90,7 @@ pub fn insert(session: &mut [u32], start: u32, end: u32, changes: &mut [i32]) ->
         marked |= gained;
         list.add(node, gained, 1);
     });
-    accepted(marked == states.all(), tried, list.count)
+    accepted(states.fires(marked), tried, list.count)
 }
 
 /// Deletes an edge.
@@ -109,7 +109,7 @@ pub fn delete(session: &mut [u32], start: u32, end: u32, changes: &mut [i32]) ->
     let (_, numbers, marks) = sections(session, shape.edges - 1);
     let lost = uncarried(states, out_of(numbers, from), marks[from], |node| marks[node]);
     if lost == 0 {
-        return accepted(shape.marked == states.all(), 0, 0);
+        return accepted(states.fires(shape.marked), 0, 0);
     }
 
     let before = *marks;
@@ -125,6 +125,5 @@ pub fn delete(session: &mut [u32], start: u32, end: u32, changes: &mut [i32]) ->
     });
     let mut list = Changes::new(changes);
     ceased.each(|node| list.add(node, before[node] & !marks[node], -1));
-    let fires = union(marks) == states.all();
-    accepted(fires, list.count as u32, list.count)
+    accepted(states.fires(union(marks)), list.count as u32, list.count)
 }

@@ -24,7 +24,7 @@ pub fn fires(session: &[u32]) -> u64 {
         return 3;
     }
     match shape(session) {
-        Some(shape) => accepted(shape.marked == shape.states.all(), 0, 0),
+        Some(shape) => accepted(shape.states.fires(shape.marked), 0, 0),
         None => 10,
     }
 }

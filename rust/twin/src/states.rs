@@ -30,6 +30,28 @@ impl States {
         (1 << self.count) - 1
     }
 
+    /// Whether the trigger fires where these states have a mark: every state reached from State One has one.
+    pub fn fires(&self, marked: u32) -> bool {
+        // What stands at some node is closed under links: these are followed only where marks are not those of a graph.
+        marked == self.all() || marked & 1 == 1 && (self.is_closed(marked) || self.reached() & !marked == 0)
+    }
+
+    /// Whether no link leads out of a set. All states are gone through, which is vector code.
+    fn is_closed(&self, set: u32) -> bool {
+        let links = self.links.iter().enumerate();
+        links.fold(0, |all, (state, links)| all | if set >> state & 1 == 1 { *links } else { 0 }) & !set == 0
+    }
+
+    /// The states that chains of links lead to from State One, itself included.
+    fn reached(&self) -> u32 {
+        let (mut reached, mut found) = (1, 1);
+        while found != 0 {
+            found = self.targets(found) & !reached;
+            reached |= found;
+        }
+        reached
+    }
+
     /// The states that admit a sample.
     pub fn admitting(&self, sample: u32) -> u32 {
         let sample = sample as u16;
