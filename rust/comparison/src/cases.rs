@@ -4,6 +4,7 @@ use crate::random::Random;
 use reference::Book;
 use reference::rules::{ROOM, SESSION};
 use reference::standing::admitted;
+use reference::trigger::bits;
 use std::collections::BTreeSet;
 
 /// A trigger and a graph, a list for each field, and the set of inverted states.
@@ -69,7 +70,7 @@ impl Case {
 
     /// A random case with so many states, nodes and edges; fewer edges where the nodes do not have so many. `kinds` is
     /// the number of different samples: the fewer, the more pairs are admitted. Half of the cases have inverted states, a
-    /// third of which is blank.
+    /// third of which is blank; half have orphans, states that are not reached from State One.
     pub fn random(random: &mut Random, states: usize, nodes: usize, edges: usize, kinds: usize) -> Case {
         let mut case = Case { inverted: some_inverted(random, states), ..Case::default() };
         for state in 0..states {
@@ -85,6 +86,8 @@ impl Case {
             let links = links(random, states);
             case.state(mask, value, links);
         }
+        let orphans = some_orphans(random, states);
+        leave_orphans(random, &mut case.links, orphans);
         for _ in 0..nodes {
             let sample = random.below(kinds) as u16 | (random.below(2) as u16) << 15;
             case.samples.push(if random.once_in(2) { sample } else { sample & 0x7FFF });
@@ -158,15 +161,51 @@ fn links(random: &mut Random, states: usize) -> u32 {
     }
 }
 
+/// A set of orphans, State One never among them: none half of the time, else of any size.
+fn some_orphans(random: &mut Random, states: usize) -> u32 {
+    let mut orphans: u32 = 0;
+    if states > 1 && random.once_in(2) {
+        let size = random.between(1, states - 1) as u32;
+        while orphans.count_ones() < size {
+            orphans |= 1 << random.between(1, states - 1);
+        }
+    }
+    orphans
+}
+
+/// Takes and adds links so that exactly the states outside a set are reached from State One. Orphans keep theirs, to each
+/// other and to reached states.
+fn leave_orphans(random: &mut Random, links: &mut [u32], orphans: u32) {
+    let others: Vec<usize> = (0..links.len()).filter(|state| orphans >> state & 1 == 0).collect();
+    others.iter().for_each(|state| links[*state] &= !orphans);
+    for state in others {
+        let reached = led_to(links, 1);
+        if reached >> state & 1 == 0 {
+            let from: Vec<usize> = bits(reached).collect();
+            links[*random.pick(&from)] |= 1 << state;
+        }
+    }
+}
+
+/// A set of states and all that chains of links lead to from it. No chain needs more links than there are states.
+fn led_to(links: &[u32], set: u32) -> u32 {
+    links.iter().fold(set, |set, _| bits(set).fold(set, |all, state| all | links[state]))
+}
+
 #[cfg(test)]
 mod tests {
     use super::*;
+    use reference::Trigger;
+    use reference::cut::reached;
+
+    /// 1,000 cases with so many states.
+    fn drawn(states: usize) -> impl Iterator<Item = Case> {
+        (0..1_000).map(move |number| Case::random(&mut Random::new(1, number), states, 2, 2, 3))
+    }
 
     /// How many of 1,000 cases with so many states have one that is blank and inverted.
     fn blank_inverted(states: usize) -> usize {
-        let case = |number: u64| Case::random(&mut Random::new(1, number), states, 2, 2, 3);
-        let has_one = |case: &Case| (0..states).any(|state| case.is_blank_inverted(state));
-        (0..1_000).map(case).filter(has_one).count()
+        drawn(states).filter(|case| (0..states).any(|state| case.is_blank_inverted(state))).count()
     }
 
     /// Half of the cases invert, and a third of their inverted states is blank: one case in six with a single state, and
@@ -176,5 +215,36 @@ mod tests {
         let counts = [1, 3, 16].map(blank_inverted);
         assert!(counts[0] > 120 && counts[1] > 200 && counts[2] > 400, "{counts:?}");
         assert!(counts[2] < 600, "{counts:?}: other triggers are drawn as well");
+    }
+
+    /// How many of 1,000 cases with so many states have an orphan; one that is linked to a reached state; two orphans that
+    /// lead to each other; and orphans while a state beside State One is reached.
+    fn orphans(states: usize) -> [usize; 4] {
+        let mut counts = [0; 4];
+        for Case { masks, values, links, .. } in drawn(states) {
+            let reached: u32 = reached(&Trigger::new(&masks, &values, &links, 0)).iter().map(|state| 1 << state).sum();
+            let orphans: Vec<usize> = (0..states).filter(|state| reached >> state & 1 == 0).collect();
+            let leads = |from: usize, to: usize| led_to(&links, 1 << from) >> to & 1 == 1;
+            let in_ring = |one: usize| orphans.iter().any(|two| one != *two && leads(one, *two) && leads(*two, one));
+            let kinds = [
+                !orphans.is_empty(),
+                orphans.iter().any(|state| links[*state] & reached != 0),
+                orphans.iter().any(|state| in_ring(*state)),
+                !orphans.is_empty() && reached != 1,
+            ];
+            counts.iter_mut().zip(kinds).for_each(|(count, kind)| *count += usize::from(kind));
+        }
+        counts
+    }
+
+    /// In the other half every state is reached. A single state is no orphan, and two orphans need three states.
+    #[test]
+    fn half_of_the_cases_have_orphans() {
+        assert_eq!(orphans(1), [0; 4]);
+        for states in [2, 3, 5, 16] {
+            let counts = orphans(states);
+            assert!((400..600).contains(&counts[0]) && counts[1] > 200, "{states} states: {counts:?}");
+            assert!(states == 2 || counts[2] > 20 && counts[3] > 200, "{states} states: {counts:?}");
+        }
     }
 }

@@ -2,8 +2,8 @@
 //!
 //! Where a damaged session is not in layout, every call is refused with 10. Where it is, it holds another trigger,
 //! graph or marks: then the questions read the marks held, and an edit does what is fixed of it for marks that may not be
-//! those of their graph. So it is with sessions saved while inverted states that are blank, that is of mask zero, admitted
-//! nothing.
+//! those of their graph: firing is of the marks held, or left, of the states reached from State One. So it is with sessions
+//! saved while inverted states that are blank, that is of mask zero, admitted nothing.
 
 use comparison::random::seed;
 use comparison::subject::{accepted, answered, refused};
@@ -438,6 +438,45 @@ fn sessions_saved_with_blank_inverted_states() {
         assert_eq!(saved, fresh, "{label}");
     }
     assert!(own > 300 && others > 100, "{own} lack a mark of a blank inverted state, {others} one of another state");
+}
+
+/// A session written word by word: states of mask zero with these links, one node with these marks, and its edge to
+/// itself or none.
+fn one_node(links: &[u32], marks: u32, edges: u32) -> Vec<u32> {
+    let mut session = vec![0; SESSION];
+    session[..3].copy_from_slice(&[links.len() as u32, 1, edges]);
+    session[36..][..links.len()].copy_from_slice(links);
+    session[2612] = marks;
+    session
+}
+
+/// A chain of so many states from State One on, and two orphans, the first linked to the second and that to State One.
+fn chain_and_orphans(reached: usize) -> Vec<u32> {
+    let chain = (1..reached).map(|next| 1 << next);
+    chain.chain([0, 1 << (reached + 1), 1]).collect()
+}
+
+/// Of marks that are no simulation too, the trigger fires exactly where each state of the chain has one.
+fn firing_by_marks_held<S: Subject>(subject: S) {
+    for (marks, edges) in (0..32).flat_map(|marks| [(marks, 0), (marks, 1)]) {
+        let session = one_node(&chain_and_orphans(3), marks, edges);
+        let label = format!("marks {marks:#07b}, {edges} edges");
+        assert_eq!(subject.fires(&session), answered(Ok(marks & 0b00111 == 0b00111)), "{label}");
+        edit(subject, &session, held(&session).as_ref(), edges == 0, (0, 0), &label);
+    }
+    // Every state but one has a mark.
+    for (reached, without) in (1..15).flat_map(|reached| (0..reached + 2).map(move |without| (reached, without))) {
+        let marks = (0..reached + 2).filter(|state| *state != without).map(|state| 1 << state).sum();
+        let session = one_node(&chain_and_orphans(reached), marks, 0);
+        let wanted = answered(Ok(without >= reached));
+        assert_eq!(subject.fires(&session), wanted, "{reached} reached, no mark of state {}", without + 1);
+    }
+}
+
+#[test]
+fn marks_that_are_no_simulation() {
+    firing_by_marks_held(Engine);
+    firing_by_marks_held(Twin);
 }
 
 #[test]

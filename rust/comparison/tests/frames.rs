@@ -191,7 +191,8 @@ fn states_of_both_kinds() {
         let mut input: String = (0..16).map(|state| format!("{}FFFF{state:04X}0000\n", kind(state))).collect();
         input += "07FFFF00000000\n01FFFF00000000\n07FFFF0000000\n07FFFF000000000\n0200FF\n020003\n03\n";
         input += "07FFFF00000000\n01FFFF00000000\n07FFFF0000\n06\n";
-        // No state is 00FF, so all inverted ones are at node 0; state 4 is 0003.
+        // No state is 00FF, so all inverted ones are at node 0; state 4 is 0003. State One, 0000, stands where it is
+        // inverted; the others are orphans.
         let at_node = |node: usize, set: usize| -> String {
             (0..16)
                 .filter(|state| set >> state & 1 == 1)
@@ -199,7 +200,7 @@ fn states_of_both_kinds() {
                 .collect()
         };
         let lists = at_node(0, inverted) + &at_node(1, inverted ^ 0x0008);
-        let (count, fires) = (lists.lines().count(), u8::from(inverted | inverted ^ 0x0008 == 0xFFFF));
+        let (count, fires) = (lists.lines().count(), inverted & 1);
         let wanted = format!("8F04\n8F04\n8F01\n8F01\n80{fires:02X}{count:04X}{count:04X}\n{lists}8F02\n8F02\n8F01\n")
             + "820102030405060708090A0B0C0D0E0F10\n";
         assert_eq!(output(input.as_bytes()), wanted.as_bytes(), "inverted {inverted:04X}");

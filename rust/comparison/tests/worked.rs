@@ -130,10 +130,58 @@ fn a_blank_inverted_state_in_a_ring() {
 fn marks_are_held_where_the_trigger_does_not_fire() {
     let mut session = Session::new();
     let states = [state(0xFFFF, 1, 0), state(0xFFFF, 2, 0)];
-    assert_eq!(told(session.load(&states, &[1], &[])), Ok((false, 1, vec![begins(1, 0)])));
-    assert_eq!(session.matches(1, 0), Ok(true));
-    assert_eq!(session.matches(2, 0), Ok(false));
+    assert_eq!(told(session.load(&states, &[2], &[])), Ok((false, 1, vec![begins(2, 0)])));
+    assert_eq!(session.matches(1, 0), Ok(false));
+    assert_eq!(session.matches(2, 0), Ok(true));
     assert_eq!(session.fires(), Ok(false));
+}
+
+/// No link leads to state 2: the trigger fires whether it stands or not.
+#[test]
+fn an_orphan_that_stands_nowhere() {
+    let mut session = Session::new();
+    let states = [state(0xFFFF, 1, 0), state(0xFFFF, 2, 0)];
+    assert_eq!(told(session.load(&states, &[1], &[])), Ok((true, 1, vec![begins(1, 0)])));
+    assert_eq!(session.matches(2, 0), Ok(false));
+    assert_eq!(session.fires(), Ok(true));
+
+    // Linked to State One, it begins and ceases to stand, and that is told.
+    let states = [state(0xFFFF, 1, 0), state(0xFFFF, 1, 0b01)];
+    assert_eq!(told(session.load(&states, &[1], &[])), Ok((true, 2, vec![begins(1, 0)])));
+    assert_eq!(told(session.insert(0, 0)), Ok((true, 1, vec![begins(2, 0)])));
+    assert_eq!(told(session.delete(0, 0)), Ok((true, 1, vec![ceases(2, 0)])));
+    assert_eq!(session.fires(), Ok(true));
+}
+
+/// States 2 and 3 are a ring that no link leads into. It stands or not, and the trigger fires where State One stands.
+#[test]
+fn a_ring_of_orphans() {
+    let mut session = Session::new();
+    let ring = [state(0xFFFF, 2, 0b100), state(0xFFFF, 3, 0b010)];
+    let (begin, cease) = (vec![begins(2, 1), begins(3, 2)], vec![ceases(2, 1), ceases(3, 2)]);
+    let states = [state(0xFFFF, 1, 0), ring[0], ring[1]];
+    assert_eq!(told(session.load(&states, &[1, 2, 3], &[(1, 2)])), Ok((true, 3, vec![begins(1, 0)])));
+    assert_eq!(told(session.insert(2, 1)), Ok((true, 2, begin.clone())));
+    assert_eq!(told(session.delete(1, 2)), Ok((true, 2, cease.clone())));
+
+    // State One is linked to itself, and does not stand before the last edge comes.
+    let states = [state(0xFFFF, 1, 0b001), ring[0], ring[1]];
+    assert_eq!(told(session.load(&states, &[1, 2, 3], &[(1, 2)])), Ok((false, 3, vec![])));
+    assert_eq!(told(session.insert(2, 1)), Ok((false, 2, begin)));
+    assert_eq!(session.fires(), Ok(false));
+    assert_eq!(told(session.insert(0, 0)), Ok((true, 1, vec![begins(1, 0)])));
+    assert_eq!(told(session.delete(1, 2)), Ok((true, 2, cease)));
+}
+
+/// A chain of three states: all are reached, and each has to stand.
+#[test]
+fn every_state_reached() {
+    let mut session = Session::new();
+    let states = [state(0xFFFF, 1, 0b010), state(0xFFFF, 2, 0b100), state(0xFFFF, 3, 0)];
+    assert_eq!(told(session.load(&states, &[1, 2], &[(0, 1)])), Ok((false, 2, vec![])));
+    assert_eq!(told(session.load(&states, &[1, 2, 3], &[(0, 1)])), Ok((false, 3, vec![begins(3, 2)])));
+    assert_eq!(session.fires(), Ok(false));
+    assert_eq!(told(session.insert(1, 2)), Ok((true, 2, vec![begins(1, 0), begins(2, 1)])));
 }
 
 #[test]
