@@ -33,6 +33,8 @@ const STATES: usize = 16;
 const QUIET: usize = 16;
 /// With so many some stand and some do not, and edits change some.
 const MIXED: usize = 3;
+/// With one kind nearly all stand, and edits mostly change nothing.
+const ALIKE: usize = 1;
 
 /// The workloads with so many nodes, at least 16.
 pub fn workloads(nodes: usize) -> Vec<Workload> {
@@ -52,6 +54,8 @@ pub fn workloads(nodes: usize) -> Vec<Workload> {
         workload("node with many edges", fan(random, nodes)),
         workload("capture, load", (loaded(random, nodes, MIXED), vec![Call::Load; 8])),
         workload("capture, question", (loaded(random, nodes, MIXED), vec![Call::Fires; CALLS])),
+        workload("orphans, quiet", with_orphans(capture(random, nodes, ALIKE))),
+        workload("orphans, question", with_orphans((loaded(random, nodes, ALIKE), vec![Call::Fires; CALLS]))),
     ]
 }
 
@@ -111,6 +115,15 @@ fn capture(random: &mut Random, nodes: usize, kinds: usize) -> (Case, Vec<Call>)
 /// The same capture and edits with every other state inverted.
 fn half_inverted((case, calls): &(Case, Vec<Call>)) -> (Case, Vec<Call>) {
     (Case { inverted: 0xAAAA, ..case.clone() }, calls.clone())
+}
+
+/// The same with a ring of half of the states. The others are orphans that lead to it, and the last one stands nowhere: the
+/// trigger fires, and links have to be followed to tell it.
+fn with_orphans((mut case, calls): (Case, Vec<Call>)) -> (Case, Vec<Call>) {
+    case.links[STATES / 2 - 1] = 1;
+    case.links[STATES - 2] = 1;
+    case.values[STATES - 1] = u16::MAX;
+    (case, calls)
 }
 
 /// The edges of a capture in the order of their arrival: the newest comes in, the oldest goes out.
