@@ -4,7 +4,9 @@
    inverted. A graph has up to 512 nodes, numbered from 0, each with a sample of 16 bits, and up to 2,048 edges. A plain state admits a node when value
    and sample agree in every bit of the mask; an inverted state admits exactly the nodes that its plain form does not, with one exception: a mask of zero
    admits every node, inverted or not. The pairs (state, node) that stand are those of the greatest simulation: the state admits the node, and each link of
-   the state is carried by an edge of the node to a node at which the link's state stands. The trigger fires when every state stands at some node.
+   the state is carried by an edge of the node to a node at which the link's state stands. A state is reached when a chain of links of any length leads to it
+   from State One, which is state 1 and itself reached. The trigger fires when every reached state stands at some node. A state that is not reached has marks
+   and changes like any other, but does not hold the trigger back.
 
    All memory is the caller's. Every list is a pointer and a number of places. What is asked of a caller, as of any function of C that takes memory:
    - a pointer is not null and is aligned for its type, and the memory has the places told; a list of no places has such a pointer too;
@@ -185,7 +187,7 @@ trigger_answer trigger_load(
    front, and the places after them are as before; the answer tells whether the trigger fires, the number of pairs tried (the least set that the insertion
    can reach) and the number of changes. An accepted load leaves such marks, whatever it met; an accepted edit leaves them where it met them.
    On a session in layout with other marks: marks are only set, at admitted pairs; the changes are the pairs that got a mark, listed in the same way;
-   firing is of the marks left; the trial count is at most the number of admitted pairs. */
+   the trigger fires where every reached state has a mark left; the trial count is at most the number of admitted pairs. */
 trigger_answer trigger_insert(
     uint32_t *session, size_t session_length,
     uint32_t start, uint32_t end,
@@ -197,7 +199,7 @@ trigger_answer trigger_insert(
    front, and the places after them are as before; the answer tells whether the trigger fires, the number of pairs that ceased as the trial count, and the
    number of changes.
    On a session in layout with other marks: marks are only cleared; the changes are the pairs that lost their mark, listed in the same way, and the trial
-   count is their number; firing is of the marks left. */
+   count is their number; the trigger fires where every reached state has a mark left. */
 trigger_answer trigger_delete(
     uint32_t *session, size_t session_length,
     uint32_t start, uint32_t end,
@@ -206,7 +208,7 @@ trigger_answer trigger_delete(
 /* Whether the state with this number stands at the node: yes where the session has a mark at the pair. Rules 3, 10, 11. It writes nothing. */
 trigger_answer trigger_matches(const uint32_t *session, size_t session_length, uint32_t state, uint32_t node);
 
-/* Whether the trigger fires: yes where every state has a mark at some node. Rules 3, 10. It writes nothing. */
+/* Whether the trigger fires: yes where every reached state has a mark at some node. Rules 3, 10. It writes nothing. */
 trigger_answer trigger_fires(const uint32_t *session, size_t session_length);
 
 /* The states in depth-first order: State One, then along its links in ascending order to each state not yet met, and so on; then the states that are not

@@ -1,5 +1,5 @@
-/* The session of the engine's description, played through the C interface, one with an inverted state, and one with an inverted state of mask zero.
-   Standard output is compared with session.expected; that each call leaves alone what it is to leave alone is tested here, and a breach is written as a
+/* The session of the engine's description, played through the C interface, one with an inverted state, one with an inverted state of mask zero, and two
+   with a state that no link leads to. Standard output is compared with session.expected; that each call leaves alone what it is to leave alone is tested here, and a breach is written as a
    line of its own. */
 #include "trigger_engine.h"
 
@@ -115,16 +115,18 @@ static void order(const char *call, size_t room)
     end(answer, 0, 1);
 }
 
-/* Two states that are linked to each other, and nodes without edges. */
-static void load(const char *call, const uint16_t *masks, const uint16_t *values, uint32_t inverted, const uint16_t *samples, size_t nodes)
+/* Two states, and nodes without edges. */
+static void load(const char *call, const uint16_t *masks, const uint16_t *values, const uint32_t *links, uint32_t inverted, const uint16_t *samples,
+                 size_t nodes)
 {
-    static const uint32_t links[] = {0x0002, 0x0001};
     static const uint32_t no_edges[] = {0};
     begin();
     report(call, trigger_load(session, words, masks, 2, values, 2, links, 2, inverted, samples, nodes, no_edges, 0, no_edges, 0, changes, places));
 }
 
 static const uint16_t all_bits[] = {0xFFFF, 0xFFFF};
+/* each is linked to the other */
+static const uint32_t ring[] = {0x0002, 0x0001};
 
 static void play_the_description(void)
 {
@@ -134,7 +136,7 @@ static void play_the_description(void)
     begin();
     question("fires before the load", trigger_fires(session, words));
 
-    load("load", all_bits, values, 0, samples, 2);
+    load("load", all_bits, values, ring, 0, samples, 2);
 
     insert("insert 0 1", 0, 1, places);
     insert("insert 1 0", 1, 0, places);
@@ -164,8 +166,8 @@ static void play_inverted_states(void)
     const uint16_t words_seen[] = {0x0000, 0x00A5, 0x0001};
 
     /* state 1 is anything but the idle word, state 2 is the idle word */
-    load("load of an inverted state that is not there", all_bits, idle, 4, words_seen, 3);
-    load("load of an inverted state", all_bits, idle, 1, words_seen, 3);
+    load("load of an inverted state that is not there", all_bits, idle, ring, 4, words_seen, 3);
+    load("load of an inverted state", all_bits, idle, ring, 1, words_seen, 3);
     insert("insert 0 1", 0, 1, places);
     insert("insert 1 0", 1, 0, places);
     insert("insert 2 0", 2, 0, places);
@@ -173,13 +175,34 @@ static void play_inverted_states(void)
 
     /* state 1 has a mask of zero and admits every node, the idle word too, though it is inverted */
     const uint16_t blank[] = {0x0000, 0xFFFF};
-    load("load of an inverted state of mask zero", blank, idle, 1, words_seen, 3);
+    load("load of an inverted state of mask zero", blank, idle, ring, 1, words_seen, 3);
     expect(session[3] == 1, "the session does not hold the inversion as it was given");
     insert("insert 0 0", 0, 0, places);
     insert("insert 1 0", 1, 0, places);
     begin();
     question("state 1 at node 0", trigger_matches(session, words, 1, 0));
     delete_edge("delete 0 0", 0, 0);
+}
+
+static void play_orphans(void)
+{
+    const uint16_t values[] = {0x0001, 0x0002};
+    const uint16_t samples[] = {0x0001, 0x0002};
+    const uint32_t to_state_one[] = {0x0000, 0x0001};
+    const uint32_t unlinked[] = {0x0000, 0x0000};
+
+    /* state 2 is linked to state 1 and no state to it: the trigger fires without it, and its changes are told */
+    load("load of an orphan", all_bits, values, to_state_one, 0, samples, 2);
+    begin();
+    question("fires", trigger_fires(session, words));
+    question("state 2 at node 1", trigger_matches(session, words, 2, 1));
+    insert("insert 1 0", 1, 0, places);
+    delete_edge("delete 1 0", 1, 0);
+
+    /* the orphan alone stands */
+    load("load of an orphan without its state 1", all_bits, values, unlinked, 0, samples + 1, 1);
+    begin();
+    question("fires", trigger_fires(session, words));
 }
 
 int main(void)
@@ -191,5 +214,6 @@ int main(void)
 
     play_the_description();
     play_inverted_states();
+    play_orphans();
     return 0;
 }

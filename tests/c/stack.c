@@ -233,6 +233,15 @@ static void give_states(size_t count, enum links_kind kind)
     }
 }
 
+/* All states but the last in a chain; the last admits no node, and no link leads to it. That the trigger fires is told by the links. */
+static void give_orphan(void)
+{
+    give_states(16, CHAIN);
+    links[14] = 0;
+    masks[15] = 0xFFFF;
+    values[15] = 0x5A00;
+}
+
 /* Nodes in a row, with edges from each to so many that follow. Where the row is closed, the first follows the last. */
 static void give_nodes(size_t count, size_t reach, int closed)
 {
@@ -297,6 +306,9 @@ static void measure_loads(void)
     measure(&load, "the same, refused for its last edge", TRIGGER_EDGES_UNORDERED);
     give_nodes(512, 4, 0);
     measure(&load, "16 states, 512 nodes, 2,038 edges without a ring, none stands", accepted(0, 8192, 0));
+    give_orphan();
+    give_nodes(512, 4, 1);
+    measure(&load, "15 states in a chain, 512 nodes, 2,048 edges, all stand but an orphan", accepted(1, 7680, 7680));
     give_states(1, UNLINKED);
     give_nodes(0, 0, 0);
     measure(&load, "one state, no node", accepted(0, 0, 0));
@@ -373,6 +385,18 @@ static void measure_edits(void)
     edit_given(trigger_delete, 0, 1);
     measure(&insert, "the 2,048th edge, every other state inverted, no pair begins", accepted(1, 0, 0));
 
+    give_orphan();
+    give_session();
+    measure(&delete_edge, "full session, all stand but an orphan, no pair ceases", accepted(1, 0, 0));
+    edit_given(trigger_delete, 0, 1);
+    measure(&insert, "the 2,048th edge, all stand but an orphan, no pair begins", accepted(1, 0, 0));
+    give_nodes(512, 1, 0);
+    give_session();
+    edge(511, 0);
+    measure(&insert, "15 states in a chain and an orphan that stands nowhere, 105 pairs begin", accepted(1, 105, 105));
+    edit_given(trigger_insert, 511, 0);
+    measure(&delete_edge, "15 states in a chain and an orphan that stands nowhere, 105 pairs cease", accepted(1, 105, 105));
+
     session_given[0] = 0;
     measure(&insert, "refused for the layout", TRIGGER_NOT_IN_LAYOUT);
     measure(&delete_edge, "refused for the layout", TRIGGER_NOT_IN_LAYOUT);
@@ -404,6 +428,10 @@ static void measure_questions(void)
     measure(&matches, "full session, every other state inverted and of mask zero, yes", accepted(1, 0, 0));
     measure(&fires, "full session, every other state inverted and of mask zero, yes", accepted(1, 0, 0));
     measure(&ordering, "full session, every other state inverted and of mask zero", accepted(0, 0, 16));
+
+    give_orphan();
+    give_session();
+    measure(&fires, "full session, all stand but an orphan, yes", accepted(1, 0, 0));
 
     give_states(16, CHAIN);
     give_session();
