@@ -116,7 +116,8 @@ pub fn matches(session: &[u32], state: u32, node: u32) -> Answer {
     foreign::matches(session, state, node)
 }
 
-/// Whether the trigger fires.
+/// Whether the trigger fires: yes where every state that a chain of links reaches from State One, itself included, has a
+/// mark at some node.
 pub fn fires(session: &[u32]) -> Answer {
     foreign::fires(session)
 }

@@ -2,7 +2,8 @@
 //!
 //! A [`Session`] owns the memory that the engine works in. It is loaded with a trigger and a capture graph; then single
 //! edges come and go, and each call tells whether the trigger fires and which pairs of a state and a node began or
-//! ceased to stand.
+//! ceased to stand. The trigger fires when every state that a chain of links reaches from State One, itself included,
+//! stands at some node.
 //!
 //! ```
 //! use trigger_engine::{Change, Rule, Session, State};

@@ -146,7 +146,24 @@ impl Session {
         Ok(lent::matches(&self.words, state, node).accepted()?.yes())
     }
 
-    /// Whether the trigger fires, that is, every state stands at some node.
+    /// Whether the trigger fires, that is, every state that a chain of links reaches from State One, itself included,
+    /// stands at some node.
+    ///
+    /// ```
+    /// use trigger_engine::{Change, Rule, Session, State};
+    ///
+    /// // State 2 is linked to State One and none to state 2: it does not hold the trigger back.
+    /// let state = |value, links| State { mask: 0xFFFF, value, links, inverted: false };
+    /// let mut session = Session::new();
+    /// session.load(&[state(1, 0b00), state(2, 0b01)], &[1, 2], &[])?;
+    /// assert!(session.fires()?);
+    /// assert!(!session.matches(2, 1)?);
+    ///
+    /// // Its changes are told as those of any other state.
+    /// let changes: Vec<Change> = session.insert(1, 0)?.changes().collect();
+    /// assert_eq!(changes, [Change { state: 2, node: 1, begins: true }]);
+    /// # Ok::<(), Rule>(())
+    /// ```
     pub fn fires(&self) -> Result<bool, Rule> {
         Ok(lent::fires(&self.words).accepted()?.yes())
     }
