@@ -118,7 +118,7 @@ fn half_inverted((case, calls): &(Case, Vec<Call>)) -> (Case, Vec<Call>) {
 }
 
 /// The same with a ring of half of the states. The others are orphans that lead to it, and the last one stands nowhere: the
-/// trigger fires, and links have to be followed to tell it.
+/// trigger fires, and only its links tell that it does.
 fn with_orphans((mut case, calls): (Case, Vec<Call>)) -> (Case, Vec<Call>) {
     case.links[STATES / 2 - 1] = 1;
     case.links[STATES - 2] = 1;
