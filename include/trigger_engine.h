@@ -52,11 +52,11 @@ enum {
     TRIGGER_STACK_SESSION_WORDS = 8,
     TRIGGER_STACK_CHANGE_PLACES = 8,
     /* an accepted load: one state and no node needed as much as a full one */
-    TRIGGER_STACK_LOAD = 19296,
-    /* measured: 19,016, with a session whose marks are tested against its layout; a refused insertion needed as much as an accepted one */
-    TRIGGER_STACK_INSERT = 29704,
+    TRIGGER_STACK_LOAD = 19360,
+    /* measured: 19,064, with a session whose marks are tested against its layout; a refused insertion needed as much as an accepted one */
+    TRIGGER_STACK_INSERT = 29752,
     /* a ring opened: its edges are indexed */
-    TRIGGER_STACK_DELETE = 29704,
+    TRIGGER_STACK_DELETE = 29752,
     /* these three: a session with marks, whose layout is tested */
     TRIGGER_STACK_MATCHES = 2184,
     TRIGGER_STACK_FIRES = 2168,
