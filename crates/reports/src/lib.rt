@@ -1,4 +1,4 @@
-// What a load and an edit share: rule 3, whether the trigger fires, the list handed back, and the report of a call.
+// What the calls share: rule 3 of a load and an edit, whether the trigger fires, the list handed back, and the report of a call.
 ghost use mathlib.Core.Path.{_≡_};
 ghost use mathlib.Core.Bool.{not, _||_, true};
 ghost use lib.Dec.{ltb};
