@@ -18,7 +18,7 @@ use Rattle.simulation.proofs.Loops.{count-same}
 use Rattle.simulation.proofs.Loops.{count-none, count-also}
 use Rattle.session.specs.Trigger.{Trigger, states, linked}
 use Rattle.session.specs.Reached.{reached}
-use Rattle.session.proofs.Reached.{reached-one, reached-link, reached-least}
+use Rattle.session.proofs.Reached.{reached-inside, reached-one, reached-link, reached-least}
 use Rattle.listing.specs.Order.{fold, visit, order}
 
 -- no entry twice
@@ -379,14 +379,6 @@ module _ (t : Trigger) where
   unfolding order
   order-numbers = refl
 
-  visited-below : Below (states t) visited
-  unfolding visit elem
-  visited-below = by (states t) (omega arith)
-    where
-      by : (d : ℕ) → d ≤ states t → Below (states t) (visit t d 0 [])
-      by zero l = λ y h. clash h refl
-      by (suc d) l = visit-below t (suc d) 0 [] (omega arith) (λ y h. clash h refl)
-
   -- the visit of State One writes just the states that are reached
   pub visited-reached : (u : ℕ) → elem u visited ≡ reached t u
   unfolding visit elem
@@ -407,6 +399,9 @@ module _ (t : Trigger) where
           visit-holds t (λ v. reached t v ≡ true) (λ ys. (y : ℕ) → elem y ys ≡ true → reached t y ≡ true) (λ v v' q m k. reached-link t v v' m q k)
           (λ v ys q e p y h. ⊎-elim (p y) (λ (i : y ≡ v). rw i q) (snoc-take y v ys h))
           (suc d) 0 [] (reached-one t (omega arith)) (λ y h. clash h refl)
+
+  visited-below : Below (states t) visited
+  visited-below y h = reached-inside t y (sym (visited-reached y) ∙ h)
 
   -- each state once, and nothing else
   pub indices-once : Once indices
