@@ -73,8 +73,8 @@ pub fn order_number(answer: OrderAnswer) -> u64
     }
 }
 
-// Copies the 16 places of an order to the front.
-pub fn fill_front(places: &mut [u8], order: &[u8; 16])
+// Copies the places of an order to the front.
+pub fn fill_front(places: &mut [u8], order: &[u8; session::MAX_STATES])
     requires { ⌜ maxStates ≤ length (now places) ⌝ }
     ensures { λ r. ⌜ now (places .exit) ≡ section maxStates (now (order .entry)) ++ drop maxStates (now (places .entry)) ⌝ }
 {

@@ -10,7 +10,7 @@ use lib.Bits.{bitAnd, bitXor, and-le-l, and-le-r, and-mask}
 use borrow.Author.Tests.{ltb-true, lt-ltb, eqb-true, eq-eqb}
 use Rattle.simulation.specs.Sets.{Set, anyBelow, allBelow}
 use Rattle.simulation.proofs.Sets.{same, implies-make, implies-take, all-make, all-take, not-any}
-use Rattle.bits.specs.Word.{bit, members, within, overlaps}
+use Rattle.bits.specs.Word.{bit, members, within, overlaps, setBits}
 use Rattle.bits.proofs.Words.{bit-member, zero-members, same-below, and-members, xor-members}
 
 beq-same : (p : Bool) → Bool·beq p p ≡ true
@@ -54,11 +54,11 @@ empty-any k w h = zero-all k w (λ i. not (members w i)) h (λ i. refl) ∙ sym 
 
 -- ---- a common member: a & b is not zero
 
-pub overlaps-test : (a b : ℕ) → a < 2 ^ 32 → not (eqb (bitAnd a b) 0) ≡ overlaps a b
+pub overlaps-test : (a b : ℕ) → a < 2 ^ setBits → not (eqb (bitAnd a b) 0) ≡ overlaps a b
 overlaps-test a b h =
-    ap not (empty-any 32 (bitAnd a b) (lt-of-le-of-lt (and-le-l a b) h))
-    ∙ Bool·not-not (anyBelow 32 (members (bitAnd a b)))
-    ∙ ap (anyBelow 32) (fun-ext (λ i. and-members a b i))
+    ap not (empty-any setBits (bitAnd a b) (lt-of-le-of-lt (and-le-l a b) h))
+    ∙ Bool·not-not (anyBelow setBits (members (bitAnd a b)))
+    ∙ ap (anyBelow setBits) (fun-ext (λ i. and-members a b i))
 
 -- ---- a subset: a & b is a
 

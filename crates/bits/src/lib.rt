@@ -1,4 +1,4 @@
-// Sets of the numbers 0 to 31, each held in a word: bit i is 1 where i is a member.
+// Sets of small numbers, each held in a word: bit i is 1 where i is a member.
 ghost use mathlib.Core.Path.{_≡_};
 ghost use mathlib.Core.Bool.{Bool, true, false, not, Bool·beq, cond};
 ghost use Prim.Native.Nat.{ℕ, _-_, _^_, _%_, _<_, _≤_};
@@ -6,11 +6,16 @@ ghost use lib.Bits.{bitAnd};
 ghost use lib.Dec.{ltb, eqb};
 ghost use lib.ListN.{length, getD};
 ghost use Rattle.simulation.specs.Sets.{also, without, union, minus, anyBelow, count};
-ghost use Rattle.bits.specs.Word.{members, within, overlaps};
+ghost use Rattle.bits.specs.Word.{members, within, overlaps, halfBits, setBits};
+
+// The width of a word that holds a set, and of its halves.
+pub const HALF_BITS: usize = 16;
+
+pub const SET_BITS: usize = HALF_BITS + HALF_BITS;
 
 // Whether i is a member.
 pub fn has(word: u32, i: u32) -> bool
-    requires { ⌜ i < 32 ⌝ }
+    requires { ⌜ i < setBits ⌝ }
     ensures { λ r. ⌜ r ≡ members word i ⌝ }
 {
     (word >> i) % 2 == 1
@@ -18,7 +23,7 @@ pub fn has(word: u32, i: u32) -> bool
 
 // The word whose one member is i.
 pub fn only(i: u32) -> u32
-    requires { ⌜ i < 32 ⌝ }
+    requires { ⌜ i < setBits ⌝ }
     ensures { λ r. ⌜ r ≡ 2 ^ i ⌝ }
 {
     1 << i
@@ -26,7 +31,7 @@ pub fn only(i: u32) -> u32
 
 // The set with i as a member.
 pub fn added(word: u32, i: u32) -> u32
-    requires { ⌜ i < 32 ⌝ }
+    requires { ⌜ i < setBits ⌝ }
     ensures { λ r. ⌜ members r ≡ also (members word) i ⌝ }
 {
     word | only(i)
@@ -34,7 +39,7 @@ pub fn added(word: u32, i: u32) -> u32
 
 // The set without i.
 pub fn removed(word: u32, i: u32) -> u32
-    requires { ⌜ i < 32 ⌝ }
+    requires { ⌜ i < setBits ⌝ }
     ensures { λ r. ⌜ members r ≡ without (members word) i ⌝ }
 {
     word & !only(i)
@@ -63,7 +68,7 @@ pub fn differing(a: u32, b: u32) -> u32
 
 // Whether each member of a is one of b.
 pub fn subset(a: u32, b: u32) -> bool
-    ensures { λ r. ⌜ r ≡ within 32 a b ⌝ }
+    ensures { λ r. ⌜ r ≡ within setBits a b ⌝ }
 {
     a & b == a
 }
@@ -77,7 +82,7 @@ pub fn meet(a: u32, b: u32) -> bool
 
 // Whether there is no member.
 pub fn empty(word: u32) -> bool
-    ensures { λ r. ⌜ r ≡ not (anyBelow 32 (members word)) ⌝ }
+    ensures { λ r. ⌜ r ≡ not (anyBelow setBits (members word)) ⌝ }
 {
     word == 0
 }
@@ -85,7 +90,7 @@ pub fn empty(word: u32) -> bool
 // The lowest member of a set that has one.
 pub fn lowest(word: u32) -> u32
     requires { ⌜ (word ≡ 0 → ⊥) ⌝ }
-    ensures { λ r. ⌜ (r < 32) × (members word r ≡ true) × ((i : ℕ) → i < r → members word i ≡ false) ⌝ }
+    ensures { λ r. ⌜ (r < setBits) × (members word r ≡ true) × ((i : ℕ) → i < r → members word i ≡ false) ⌝ }
 {
     u32::trailing_zeros(word)
 }
@@ -110,14 +115,14 @@ pub fn several(word: u32) -> bool
 
 // How many members there are.
 pub fn size(word: u32) -> u32
-    ensures { λ r. ⌜ r ≡ count 32 (members word) ⌝ }
+    ensures { λ r. ⌜ r ≡ count setBits (members word) ⌝ }
 {
     u32::count_ones(word)
 }
 
 // The numbers below n.
 pub fn below(n: u32) -> u32
-    requires { ⌜ n ≤ 32 ⌝ }
+    requires { ⌜ n ≤ setBits ⌝ }
     ensures { λ r. ⌜ (r ≡ 2 ^ n - 1) × (members r ≡ (λ i. ltb i n)) ⌝ }
 {
     ((1u64 << n) - 1) as u32
@@ -125,7 +130,7 @@ pub fn below(n: u32) -> u32
 
 // Whether each member is below n.
 pub fn inside(word: u32, n: u32) -> bool
-    requires { ⌜ n ≤ 32 ⌝ }
+    requires { ⌜ n ≤ setBits ⌝ }
     ensures { λ r. ⌜ r ≡ ltb word (2 ^ n) ⌝ }
 {
     subset(word, below(n))
@@ -133,7 +138,7 @@ pub fn inside(word: u32, n: u32) -> bool
 
 // The members below n.
 pub fn kept_below(word: u32, n: u32) -> u32
-    requires { ⌜ n ≤ 32 ⌝ }
+    requires { ⌜ n ≤ setBits ⌝ }
     ensures { λ r. ⌜ r ≡ word % 2 ^ n ⌝ }
 {
     word & below(n)
@@ -172,13 +177,13 @@ pub const ALL_HALF: u16 = 65535;
 
 // The word where the test holds; where it does not, if the turn is every bit and not none. The turn is one operation, and there is no branch.
 pub fn chosen(word: u32, test: bool, turn: u32) -> u32
-    ensures { λ r. ⌜ ((b : Bool) → turn ≡ cond b (2 ^ 32 - 1) 0 → r ≡ cond (cond b (not test) test) word 0) ⌝ }
+    ensures { λ r. ⌜ ((b : Bool) → turn ≡ cond b (2 ^ setBits - 1) 0 → r ≡ cond (cond b (not test) test) word 0) ⌝ }
 {
     word & (picked(ALL, test) ^ turn)
 }
 
 pub fn chosen_half(word: u16, test: bool, turn: u16) -> u16
-    ensures { λ r. ⌜ ((b : Bool) → turn ≡ cond b (2 ^ 16 - 1) 0 → r ≡ cond (cond b (not test) test) word 0) ⌝ }
+    ensures { λ r. ⌜ ((b : Bool) → turn ≡ cond b (2 ^ halfBits - 1) 0 → r ≡ cond (cond b (not test) test) word 0) ⌝ }
 {
     word & (picked_half(ALL_HALF, test) ^ turn)
 }

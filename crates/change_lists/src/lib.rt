@@ -9,10 +9,11 @@ ghost use Rattle.simulation.specs.Sets.{allBelow};
 ghost use Rattle.session.specs.Limits.{maxChanges, maxNodes, maxStates};
 ghost use Rattle.listing.specs.Changes.{sizeOf, signed};
 ghost use Rattle.listing.specs.Placed.{nodeChanges, tableChanges, Placed};
+ghost use Rattle.bits.specs.Word.{setBits};
 
 // The change of a state at a node: positive where it begins to stand, negative where it ceases.
 pub fn change(state: u32, node: u32, begins: bool) -> i32
-    requires { ⌜ (state < 32) × (node < maxNodes) ⌝ }
+    requires { ⌜ (state < setBits) × (node < maxNodes) ⌝ }
     ensures { λ r. ⌜ r ≡ signed begins (sizeOf state node) ⌝ }
 {
     let size = (node * 64 + (state + 1)) as i32;
@@ -62,7 +63,7 @@ pub fn node_changes(
     before: u32,
     after: u32,
 ) -> usize
-    requires { ⌜ (states ≤ 32) × (node < maxNodes) × (at + states ≤ length (now changes)) ⌝ }
+    requires { ⌜ (states ≤ setBits) × (node < maxNodes) × (at + states ≤ length (now changes)) ⌝ }
     ensures { λ r. ⌜ Placed (now (changes .entry)) at (nodeChanges node states before after) (now (changes .exit)) r ⌝ }
 {
     let mut next = at;

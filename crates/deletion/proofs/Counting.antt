@@ -8,7 +8,7 @@ use lib.ListN.{getD, take, drop}
 use Rattle.simulation.specs.Sets.{minus, count}
 use Rattle.simulation.proofs.Sets.{and-l}
 use Rattle.simulation.proofs.Loops.{count-same}
-use Rattle.session.specs.Limits.{marksAt}
+use Rattle.session.specs.Limits.{marksAt, maxNodes}
 use Rattle.session.specs.Trigger.{Marks, states, nodes}
 use Rattle.session.specs.Layout.{triggerOf, graphOf, marksOf, inLayout}
 use Rattle.session.proofs.Decoded.{LayoutFacts, layout-facts}
@@ -18,7 +18,7 @@ use Rattle.promises.specs.Promises.{ceased}
 use Rattle.session_parts.proofs.Parts.{held-marks}
 
 -- what a table ts takes away from the marks of a session
-module _ (xs : List ℕ) (h : inLayout xs ≡ true) (saved ts gone : List ℕ) (full : saved ≡ take 512 (drop marksAt xs))
+module _ (xs : List ℕ) (h : inLayout xs ≡ true) (saved ts gone : List ℕ) (full : saved ≡ take maxNodes (drop marksAt xs))
     (taken : (u v : ℕ) → marked gone u v ≡ (marked saved u v && not (marked ts u v))) where
   abbrev facts : LayoutFacts xs
   facts = layout-facts xs h

@@ -11,9 +11,9 @@ use Rattle.simulation.specs.System.{supported}
 use Rattle.simulation.specs.Pattern.{Pattern, pair, paired, system}
 use Rattle.simulation.proofs.Sets.{clash, refuted, and-l, any-take}
 use Rattle.simulation.proofs.Edges.{all-same}
-use Rattle.bits.specs.Word.{members}
+use Rattle.bits.specs.Word.{members, setBits}
 use Rattle.bits.proofs.Words.{zero-members}
-use Rattle.session.specs.Limits.{marksAt}
+use Rattle.session.specs.Limits.{marksAt, maxNodes}
 use Rattle.session.specs.Trigger.{Trigger, Graph, Marks, nodes, pattern}
 use Rattle.session.specs.Layout.{triggerOf, graphOf, marksOf, inLayout}
 use Rattle.session.proofs.Decoded.{LayoutFacts, layout-facts}
@@ -27,7 +27,7 @@ use Rattle.refinement.proofs.Systems.{sound, same-states, supported-pattern}
 use Rattle.session_parts.proofs.Parts.{held-marks}
 use Rattle.editing.specs.Steps.{markedPairs, backed, steadyAt}
 
-module _ (xs : List ℕ) (h : inLayout xs ≡ true) (ms : List ℕ) (full : ms ≡ take 512 (drop marksAt xs)) (a : ℕ) where
+module _ (xs : List ℕ) (h : inLayout xs ≡ true) (ms : List ℕ) (full : ms ≡ take maxNodes (drop marksAt xs)) (a : ℕ) where
   abbrev t : Trigger
   t = triggerOf xs
 
@@ -60,7 +60,7 @@ module _ (xs : List ℕ) (h : inLayout xs ≡ true) (ms : List ℕ) (full : ms �
       → members lacking ≡ unmetOf (getD ms a 0) links (edgesFrom edges a) ms ms → eqb lacking 0 ≡ steadyAt xs a
   unfolding steadyAt
   steady-is links edges lacking links-is edges-is unmet =
-      let few : length (t .links) ≤ 32 = omega (arith, facts .trigger .links, facts .trigger .few) in
+      let few : length (t .links) ≤ setBits = omega (arith, facts .trigger .links, facts .trigger .few) in
       whole-met (getD ms a 0) (t .links) (edgesFrom (g .edges) a) ms ms lacking (rw (links-is, edges-is) at unmet) few
       ∙ all-same (length (t .links))
       (λ u. not (members (getD ms a 0) u) || whole (length (t .links)) (getD (t .links) u 0) (edgesFrom (g .edges) a) ms ms)

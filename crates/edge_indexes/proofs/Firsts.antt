@@ -17,18 +17,19 @@ use Rattle.simulation.proofs.Ordered.{Rising, rising-take}
 use Rattle.simulation.proofs.Edges.{from-le, before-from, from-mono, in-range, range-of}
 use Rattle.session.specs.Layout.{below}
 use Rattle.session.proofs.Tables.{below-take}
-use Rattle.edge_indexes.specs.Indexes.{last, startsAt, Noted, filled, Started}
+use Rattle.edge_indexes.specs.Indexes.{last, startsAt, Noted, filled, Started, startsSize}
 use Rattle.edge_indexes.proofs.Incoming.{last-here, last-on, last-le, last-at, last-after}
+use Rattle.session.specs.Limits.{edgeNumbers, maxNodes}
 
 -- ---- what is noted of the first k edges
 
 pub record Noting (es firsts : List ℕ) (k : ℕ) : Type 0 where
   pub within : k ≤ length es
-  pub long : length firsts ≡ 513
+  pub long : length firsts ≡ startsSize
   pub none : getD firsts 0 0 ≡ 0
-  pub noted : (v : ℕ) → v < 512 → getD firsts (v + 1) 0 ≡ last (startsAt es v) k
+  pub noted : (v : ℕ) → v < maxNodes → getD firsts (v + 1) 0 ≡ last (startsAt es v) k
 
-pub noting-none : {es firsts : List ℕ} → length firsts ≡ 513 → ((v : ℕ) → getD firsts v 0 ≡ 0) → Noting es firsts 0
+pub noting-none : {es firsts : List ℕ} → length firsts ≡ startsSize → ((v : ℕ) → getD firsts v 0 ≡ 0) → Noting es firsts 0
 unfolding last
 noting-none l z =
     record {
@@ -39,7 +40,7 @@ noting-none l z =
     }
 
 module _ {es firsts : List ℕ} {k : ℕ} (x : Noting es firsts k) where
-  pub noting-more : k < length es → below 262144 es ≡ true → Noting es (set firsts (getD es k 0 / 512 + 1) (k + 1)) (k + 1)
+  pub noting-more : k < length es → below edgeNumbers es ≡ true → Noting es (set firsts (getD es k 0 / maxNodes + 1) (k + 1)) (k + 1)
   noting-more l low =
       record {
         within = omega arith;
@@ -49,15 +50,15 @@ module _ {es firsts : List ℕ} {k : ℕ} (x : Noting es firsts k) where
       }
     where
       start : ℕ
-      start = getD es k 0 / 512
+      start = getD es k 0 / maxNodes
 
-      noted : (v : ℕ) → v < 512 → getD (set firsts (start + 1) (k + 1)) (v + 1) 0 ≡ last (startsAt es v) (k + 1)
+      noted : (v : ℕ) → v < maxNodes → getD (set firsts (start + 1) (k + 1)) (v + 1) 0 ≡ last (startsAt es v) (k + 1)
       noted v h =
           ⊎-elim
           (λ (e : eqb start v ≡ true).
           let at = eqb-true start v e in
           rw (← at)
-          (getD-set-same firsts (start + 1) (k + 1) 0 (omega (arith, x .long, below-take 262144 es low k l))
+          (getD-set-same firsts (start + 1) (k + 1) 0 (omega (arith, x .long, below-take edgeNumbers es low k l))
           ∙ sym (last-here (startsAt es start) k (eq-eqb start start refl))))
           (λ (e : eqb start v ≡ false).
           let away = eqb-false start v e in
@@ -91,13 +92,13 @@ module _ (xs : List ℕ) where
 
 pub record Filling (xs ys : List ℕ) (place v : ℕ) : Type 0 where
   pub some : 0 < v
-  pub within : v ≤ 513
-  pub long : length ys ≡ 513
+  pub within : v ≤ startsSize
+  pub long : length ys ≡ startsSize
   pub carried : place ≡ filled xs (v - 1)
   pub done : (w : ℕ) → w < v → getD ys w 0 ≡ filled xs w
   pub left : (w : ℕ) → v ≤ w → getD ys w 0 ≡ getD xs w 0
 
-pub filling-none : {xs : List ℕ} → length xs ≡ 513 → Filling xs xs (getD xs 0 0) 1
+pub filling-none : {xs : List ℕ} → length xs ≡ startsSize → Filling xs xs (getD xs 0 0) 1
 unfolding filled
 filling-none {xs} l =
     record {
@@ -109,7 +110,7 @@ filling-none {xs} l =
       left = λ w h. refl;
     }
 
-module _ {xs ys : List ℕ} {place v : ℕ} (x : Filling xs ys place v) (inside : v < 513) where
+module _ {xs ys : List ℕ} {place v : ℕ} (x : Filling xs ys place v) (inside : v < startsSize) where
   back : v - 1 + 1 ≡ v
   back = omega (arith, x .some)
 
@@ -144,46 +145,46 @@ module _ {xs ys : List ℕ} {place v : ℕ} (x : Filling xs ys place v) (inside 
 -- ---- filled in, what is noted of ascending edges is where each node's edges begin
 
 module _ (es : List ℕ) (rising : Rising es) where
-  from-none : from 512 es 0 ≡ 0
+  from-none : from maxNodes es 0 ≡ 0
   from-none =
       ⊎-elim
-      (λ (a : 0 < from 512 es 0). let low : getD es 0 0 < 0 * 512 = before-from 512 es 0 0 a in absurd (omega arith))
-      (λ (a : from 512 es 0 ≤ 0). omega arith)
-      (lt-or-le 0 (from 512 es 0))
+      (λ (a : 0 < from maxNodes es 0). let low : getD es 0 0 < 0 * maxNodes = before-from maxNodes es 0 0 a in absurd (omega arith))
+      (λ (a : from maxNodes es 0 ≤ 0). omega arith)
+      (lt-or-le 0 (from maxNodes es 0))
 
   -- an edge of the range of v starts at v
-  starts-in : (v k : ℕ) → from 512 es v ≤ k → k < from 512 es (v + 1) → startsAt es v k ≡ true
+  starts-in : (v k : ℕ) → from maxNodes es v ≤ k → k < from maxNodes es (v + 1) → startsAt es v k ≡ true
   starts-in v k low high =
-      eq-eqb (getD es k 0 / 512) v (in-range 512 es rising v k (omega (arith, from-le 512 es (v + 1))) low high)
+      eq-eqb (getD es k 0 / maxNodes) v (in-range maxNodes es rising v k (omega (arith, from-le maxNodes es (v + 1))) low high)
 
   -- no edge starts at v: the next node's begin where its would
-  from-on : (v : ℕ) → last (startsAt es v) (length es) ≡ 0 → from 512 es (v + 1) ≡ from 512 es v
+  from-on : (v : ℕ) → last (startsAt es v) (length es) ≡ 0 → from maxNodes es (v + 1) ≡ from maxNodes es v
   from-on v e =
-      let up = from-mono 512 es v in
-      let top = from-le 512 es (v + 1) in
+      let up = from-mono maxNodes es v in
+      let top = from-le maxNodes es (v + 1) in
       ⊎-elim
-      (λ (a : from 512 es v < from 512 es (v + 1)).
-      let k = from 512 es v in
+      (λ (a : from maxNodes es v < from maxNodes es (v + 1)).
+      let k = from maxNodes es v in
       clash (starts-in v k (omega arith) a) (last-after (startsAt es v) (length es) k (omega arith) (omega arith)))
-      (λ (a : from 512 es (v + 1) ≤ from 512 es v). omega arith)
-      (lt-or-le (from 512 es v) (from 512 es (v + 1)))
+      (λ (a : from maxNodes es (v + 1) ≤ from maxNodes es v). omega arith)
+      (lt-or-le (from maxNodes es v) (from maxNodes es (v + 1)))
 
   -- some does: the next node's begin after the last of them
-  from-after : (v : ℕ) → (last (startsAt es v) (length es) ≡ 0 → ⊥) → from 512 es (v + 1) ≡ last (startsAt es v) (length es)
+  from-after : (v : ℕ) → (last (startsAt es v) (length es) ≡ 0 → ⊥) → from maxNodes es (v + 1) ≡ last (startsAt es v) (length es)
   from-after v some =
       let n = last (startsAt es v) (length es) in
       let few : n ≤ length es = last-le (startsAt es v) (length es) in
-      let top = from-le 512 es (v + 1) in
-      let at = eqb-true (getD es (n - 1) 0 / 512) v (last-at (startsAt es v) (length es) some) in
-      let r = range-of 512 es rising v (n - 1) (omega arith) (omega arith) at in
+      let top = from-le maxNodes es (v + 1) in
+      let at = eqb-true (getD es (n - 1) 0 / maxNodes) v (last-at (startsAt es v) (length es) some) in
+      let r = range-of maxNodes es rising v (n - 1) (omega arith) (omega arith) at in
       ⊎-elim
-      (λ (a : n < from 512 es (v + 1)).
+      (λ (a : n < from maxNodes es (v + 1)).
       clash (starts-in v n (omega (arith, r .0)) a) (last-after (startsAt es v) (length es) n (omega arith) (omega arith)))
-      (λ (a : from 512 es (v + 1) ≤ n). omega (arith, r .1, some))
-      (lt-or-le n (from 512 es (v + 1)))
+      (λ (a : from maxNodes es (v + 1) ≤ n). omega (arith, r .1, some))
+      (lt-or-le n (from maxNodes es (v + 1)))
 
   module _ (xs : List ℕ) (x : Noted es xs) where
-    filled-next : (v : ℕ) → v < 512 → filled xs v ≡ from 512 es v → filled xs (v + 1) ≡ from 512 es (v + 1)
+    filled-next : (v : ℕ) → v < maxNodes → filled xs v ≡ from maxNodes es v → filled xs (v + 1) ≡ from maxNodes es (v + 1)
     filled-next v h ih =
         ⊎-elim
         (λ (e : eqb n 0 ≡ true). let z = eqb-true n 0 e in filled-on xs v (note ∙ z) ∙ ih ∙ sym (from-on v z))
@@ -196,15 +197,15 @@ module _ (es : List ℕ) (rising : Rising es) where
         note : getD xs (v + 1) 0 ≡ n
         note = x .noted v h
 
-    filled-none : filled xs 0 ≡ from 512 es 0
+    filled-none : filled xs 0 ≡ from maxNodes es 0
     unfolding filled
     filled-none = x .none ∙ sym from-none
 
-    filled-from : (v : ℕ) → v < 513 → filled xs v ≡ from 512 es v
+    filled-from : (v : ℕ) → v < startsSize → filled xs v ≡ from maxNodes es v
     filled-from zero h = filled-none
     filled-from (suc v) h = rw (← add-one v) (filled-next v (omega arith) (filled-from v (omega arith)))
 
-pub started : (es xs ys : List ℕ) → ascends es ≡ true → Noted es xs → length ys ≡ 513 → ((v : ℕ) → v < 513 → getD ys v 0 ≡ filled xs v)
+pub started : (es xs ys : List ℕ) → ascends es ≡ true → Noted es xs → length ys ≡ startsSize → ((v : ℕ) → v < startsSize → getD ys v 0 ≡ filled xs v)
     → Started es ys
 started es xs ys up x l f =
     record {

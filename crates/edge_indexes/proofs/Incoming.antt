@@ -15,6 +15,7 @@ use Rattle.simulation.specs.Sets.{Set, anyBelow}
 use Rattle.simulation.proofs.Sets.{clash, split, same, refuted, and-make, and-l, and-r, or-l, or-r, or-take, any-make, any-take}
 use Rattle.simulation.proofs.Search.{lt-or-le}
 use Rattle.edge_indexes.specs.Indexes.{last, endsAt, Indexed, predecessors}
+use Rattle.session.specs.Limits.{maxEdges, maxNodes}
 
 -- ---- one more than the last index
 
@@ -66,12 +67,12 @@ module _ (P : Set) where
 
 pub record Indexing (es heads nexts : List ℕ) (k : ℕ) : Type 0 where
   pub within : k ≤ length es
-  pub heads-long : length heads ≡ 512
-  pub nexts-long : length nexts ≡ 2048
-  pub head : (v : ℕ) → v < 512 → getD heads v 0 ≡ last (endsAt es v) k
-  pub next : (j : ℕ) → j < k → getD nexts j 0 ≡ last (endsAt es (getD es j 0 % 512)) j
+  pub heads-long : length heads ≡ maxNodes
+  pub nexts-long : length nexts ≡ maxEdges
+  pub head : (v : ℕ) → v < maxNodes → getD heads v 0 ≡ last (endsAt es v) k
+  pub next : (j : ℕ) → j < k → getD nexts j 0 ≡ last (endsAt es (getD es j 0 % maxNodes)) j
 
-pub indexing-none : {es heads nexts : List ℕ} → length heads ≡ 512 → length nexts ≡ 2048 → ((v : ℕ) → getD heads v 0 ≡ 0)
+pub indexing-none : {es heads nexts : List ℕ} → length heads ≡ maxNodes → length nexts ≡ maxEdges → ((v : ℕ) → getD heads v 0 ≡ 0)
     → Indexing es heads nexts 0
 unfolding last
 indexing-none lh ln z =
@@ -84,8 +85,8 @@ indexing-none lh ln z =
     }
 
 module _ {es heads nexts : List ℕ} {k : ℕ} (x : Indexing es heads nexts k) where
-  pub indexing-more : k < length es → length es ≤ 2048
-      → Indexing es (set heads (getD es k 0 % 512) (k + 1)) (set nexts k (getD heads (getD es k 0 % 512) 0)) (k + 1)
+  pub indexing-more : k < length es → length es ≤ maxEdges
+      → Indexing es (set heads (getD es k 0 % maxNodes) (k + 1)) (set nexts k (getD heads (getD es k 0 % maxNodes) 0)) (k + 1)
   indexing-more l few =
       record {
         within = omega arith;
@@ -96,9 +97,9 @@ module _ {es heads nexts : List ℕ} {k : ℕ} (x : Indexing es heads nexts k) w
       }
     where
       end : ℕ
-      end = getD es k 0 % 512
+      end = getD es k 0 % maxNodes
 
-      head : (v : ℕ) → v < 512 → getD (set heads end (k + 1)) v 0 ≡ last (endsAt es v) (k + 1)
+      head : (v : ℕ) → v < maxNodes → getD (set heads end (k + 1)) v 0 ≡ last (endsAt es v) (k + 1)
       head v h =
           ⊎-elim
           (λ (e : eqb end v ≡ true).
@@ -110,7 +111,7 @@ module _ {es heads nexts : List ℕ} {k : ℕ} (x : Indexing es heads nexts k) w
           ∙ sym (last-on (endsAt es v) k e))
           (split (eqb end v))
 
-      chain : (j : ℕ) → j < k + 1 → getD (set nexts k (getD heads end 0)) j 0 ≡ last (endsAt es (getD es j 0 % 512)) j
+      chain : (j : ℕ) → j < k + 1 → getD (set nexts k (getD heads end 0)) j 0 ≡ last (endsAt es (getD es j 0 % maxNodes)) j
       chain j h =
           ⊎-elim
           (λ (a : j < k).
@@ -133,31 +134,31 @@ module _ {es heads nexts : List ℕ} {k : ℕ} (x : Indexing es heads nexts k) w
 
 -- w has an edge to v among those from n on
 abbrev calls : List ℕ → ℕ → ℕ → ℕ → Set
-calls es v n w k = leb n k && (endsAt es v k && eqb (getD es k 0 / 512) w)
+calls es v n w k = leb n k && (endsAt es v k && eqb (getD es k 0 / maxNodes) w)
 
 pub called : List ℕ → ℕ → ℕ → Set
 called es v n w = anyBelow (length es) (calls es v n w)
 
 module _ (es : List ℕ) (v : ℕ) where
   called-take : (n w : ℕ) → called es v n w ≡ true
-      → (k : ℕ) × (n ≤ k) × (k < length es) × (endsAt es v k ≡ true) × (getD es k 0 / 512 ≡ w)
+      → (k : ℕ) × (n ≤ k) × (k < length es) × (endsAt es v k ≡ true) × (getD es k 0 / maxNodes ≡ w)
   unfolding called
   called-take n w h =
       let r = any-take (length es) (calls es v n w) h in
       let k = r .0 in
-      let t = and-r (leb n k) (endsAt es v k && eqb (getD es k 0 / 512) w) (r .2) in (
+      let t = and-r (leb n k) (endsAt es v k && eqb (getD es k 0 / maxNodes) w) (r .2) in (
         k,
-        leb-true n k (and-l (leb n k) (endsAt es v k && eqb (getD es k 0 / 512) w) (r .2)),
+        leb-true n k (and-l (leb n k) (endsAt es v k && eqb (getD es k 0 / maxNodes) w) (r .2)),
         r .1,
-        and-l (endsAt es v k) (eqb (getD es k 0 / 512) w) t,
-        eqb-true (getD es k 0 / 512) w (and-r (endsAt es v k) (eqb (getD es k 0 / 512) w) t),
+        and-l (endsAt es v k) (eqb (getD es k 0 / maxNodes) w) t,
+        eqb-true (getD es k 0 / maxNodes) w (and-r (endsAt es v k) (eqb (getD es k 0 / maxNodes) w) t),
       )
 
-  called-make : (n w k : ℕ) → n ≤ k → k < length es → endsAt es v k ≡ true → getD es k 0 / 512 ≡ w → called es v n w ≡ true
+  called-make : (n w k : ℕ) → n ≤ k → k < length es → endsAt es v k ≡ true → getD es k 0 / maxNodes ≡ w → called es v n w ≡ true
   unfolding called
   called-make n w k h l e s =
       any-make (length es) (calls es v n w) k l
-      (and-make (le-leb n k h) (and-make e (eq-eqb (getD es k 0 / 512) w s)))
+      (and-make (le-leb n k h) (and-make e (eq-eqb (getD es k 0 / maxNodes) w s)))
 
   called-none : (w : ℕ) → called es v (last (endsAt es v) (length es)) w ≡ false
   called-none w =
@@ -166,7 +167,7 @@ module _ (es : List ℕ) (v : ℕ) where
 
   -- no edge to v stands between two that the index joins
   called-more : (k : ℕ) → k < length es → endsAt es v k ≡ true → (w : ℕ)
-      → called es v (last (endsAt es v) k) w ≡ (called es v (k + 1) w || eqb w (getD es k 0 / 512))
+      → called es v (last (endsAt es v) k) w ≡ (called es v (k + 1) w || eqb w (getD es k 0 / maxNodes))
   called-more k l e w =
       let before = last-le (endsAt es v) k in
       same (called es v n w) (called es v (k + 1) w || eqb w start)
@@ -179,7 +180,7 @@ module _ (es : List ℕ) (v : ℕ) where
       (λ (b : k < r .0). or-l (eqb w start) (called-make (k + 1) w (r .0) (omega arith) (r .2) (r .3) (r .4)))
       (λ (b : r .0 ≤ k).
       let at : r .0 ≡ k = omega arith in
-      or-r (called es v (k + 1) w) (eq-eqb w start (sym (r .4) ∙ ap (λ (j : ℕ). getD es j 0 / 512) at)))
+      or-r (called es v (k + 1) w) (eq-eqb w start (sym (r .4) ∙ ap (λ (j : ℕ). getD es j 0 / maxNodes) at)))
       (lt-or-le k (r .0)))
       (lt-or-le (r .0) k))
       (λ h.
@@ -192,31 +193,31 @@ module _ (es : List ℕ) (v : ℕ) where
       n = last (endsAt es v) k
 
       start : ℕ
-      start = getD es k 0 / 512
+      start = getD es k 0 / maxNodes
 
   pub called-all : (w : ℕ) → called es v 0 w ≡ predecessors es v w
   unfolding called predecessors
   called-all w =
       ap (anyBelow (length es))
-      (fun-ext (λ k. ap (λ (b : Bool). b && (endsAt es v k && eqb (getD es k 0 / 512) w)) (le-leb 0 k zero-le)))
+      (fun-ext (λ k. ap (λ (b : Bool). b && (endsAt es v k && eqb (getD es k 0 / maxNodes) w)) (le-leb 0 k zero-le)))
 
 -- n edges are left, the last of them an edge to v
 pub record Chained (es : List ℕ) (v n : ℕ) : Type 0 where
   pub within : n ≤ length es
-  pub ends : (n ≡ 0 → ⊥) → getD es (n - 1) 0 % 512 ≡ v
+  pub ends : (n ≡ 0 → ⊥) → getD es (n - 1) 0 % maxNodes ≡ v
 
 chained-last : (es : List ℕ) (v k : ℕ) → k ≤ length es → Chained es v (last (endsAt es v) k)
 chained-last es v k l =
     record {
       within = omega (arith, last-le (endsAt es v) k);
-      ends = λ some. eqb-true (getD es (last (endsAt es v) k - 1) 0 % 512) v (last-at (endsAt es v) k some);
+      ends = λ some. eqb-true (getD es (last (endsAt es v) k - 1) 0 % maxNodes) v (last-at (endsAt es v) k some);
     }
 
 module _ {es heads nexts : List ℕ} (x : Indexed es heads nexts) where
-  pub chained-head : (v : ℕ) → v < 512 → Chained es v (getD heads v 0)
+  pub chained-head : (v : ℕ) → v < maxNodes → Chained es v (getD heads v 0)
   chained-head v h = rw (x .head v h) (chained-last es v (length es) (omega arith))
 
-  pub called-head : (v w : ℕ) → v < 512 → called es v (getD heads v 0) w ≡ false
+  pub called-head : (v w : ℕ) → v < maxNodes → called es v (getD heads v 0) w ≡ false
   called-head v w h = rw (x .head v h) (called-none es v w)
 
   module _ {v n : ℕ} (y : Chained es v n) (some : n ≡ 0 → ⊥) where
@@ -224,7 +225,7 @@ module _ {es heads nexts : List ℕ} (x : Indexed es heads nexts) where
     at : (n - 1 < length es) × (endsAt es v (n - 1) ≡ true) × (getD nexts (n - 1) 0 ≡ last (endsAt es v) (n - 1))
     at =
         let l : n - 1 < length es = omega (arith, some, y .within) in
-        (l, eq-eqb (getD es (n - 1) 0 % 512) v (y .ends some), rw (← y .ends some) (x .next (n - 1) l))
+        (l, eq-eqb (getD es (n - 1) 0 % maxNodes) v (y .ends some), rw (← y .ends some) (x .next (n - 1) l))
 
     pub chained-less : getD nexts (n - 1) 0 < n
     chained-less = rw (at .2) (omega (arith, some, last-le (endsAt es v) (n - 1)))
@@ -232,9 +233,9 @@ module _ {es heads nexts : List ℕ} (x : Indexed es heads nexts) where
     pub chained-next : Chained es v (getD nexts (n - 1) 0)
     chained-next = rw (at .2) (chained-last es v (n - 1) (omega (arith, at .0)))
 
-    pub called-next : (w : ℕ) → called es v (getD nexts (n - 1) 0) w ≡ (called es v n w || eqb w (getD es (n - 1) 0 / 512))
+    pub called-next : (w : ℕ) → called es v (getD nexts (n - 1) 0) w ≡ (called es v n w || eqb w (getD es (n - 1) 0 / maxNodes))
     called-next w =
         let back : n - 1 + 1 ≡ n = omega (arith, some) in
         ap (λ (m : ℕ). called es v m w) (at .2)
         ∙ called-more es v (n - 1) (at .0) (at .1) w
-        ∙ ap (λ (m : ℕ). called es v m w || eqb w (getD es (n - 1) 0 / 512)) back
+        ∙ ap (λ (m : ℕ). called es v m w || eqb w (getD es (n - 1) 0 / maxNodes)) back

@@ -40,9 +40,13 @@ predecessors es v w = anyBelow (length es) (λ k. endsAt es v k && eqb (getD es 
 abbrev pub startsAt : List ℕ → ℕ → Set
 startsAt es v k = eqb (getD es k 0 / maxNodes) v
 
+-- a place before all nodes, and one after each
+abbrev pub startsSize : ℕ
+startsSize = maxNodes + 1
+
 -- after each node one more than its last edge, and 0 where it has none
 pub record Noted (es firsts : List ℕ) : Type 0 where
-  pub long : length firsts ≡ 513
+  pub long : length firsts ≡ startsSize
   pub none : getD firsts 0 0 ≡ 0
   pub noted : (v : ℕ) → v < maxNodes → getD firsts (v + 1) 0 ≡ last (startsAt es v) (length es)
 
@@ -53,5 +57,5 @@ filled xs (suc v) = cond (eqb (getD xs (suc v) 0) 0) (filled xs v) (getD xs (suc
 
 -- for each node the place of its first edge, and after the last node the number of edges
 pub record Started (es firsts : List ℕ) : Type 0 where
-  pub long : length firsts ≡ 513
+  pub long : length firsts ≡ startsSize
   pub first : (v : ℕ) → v < suc maxNodes → getD firsts v 0 ≡ from maxNodes es v

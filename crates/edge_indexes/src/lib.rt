@@ -3,9 +3,9 @@ ghost use mathlib.Core.Path.{_≡_};
 ghost use mathlib.Core.Bool.{true};
 ghost use Prim.Native.Nat.{ℕ, _<_, _≤_};
 ghost use lib.ListN.{length, getD};
-ghost use Rattle.session.specs.Limits.{maxEdges, maxNodes};
+ghost use Rattle.session.specs.Limits.{maxEdges, maxNodes, edgeNumbers};
 ghost use Rattle.session.specs.Layout.{below};
-ghost use Rattle.edge_indexes.specs.Indexes.{Indexed, Noted, filled, Started, edgesFrom};
+ghost use Rattle.edge_indexes.specs.Indexes.{Indexed, Noted, filled, Started, edgesFrom, startsSize};
 ghost use Rattle.simulation.specs.Ordered.{ascends};
 
 // Builds the index of the edges that end at each node, in tables that are zero.
@@ -24,11 +24,11 @@ pub fn index(edges: &[u32], heads: &mut [u32], nexts: &mut [u32])
 }
 
 // A place for each node, and one for the end of the last.
-pub const STARTS: usize = 513;
+pub const STARTS: usize = session::MAX_NODES + 1;
 
 // Notes for each node that has edges, in the place of the next node, where they end. The last of them is written last.
 pub fn note_ends(edges: &[u32], firsts: &mut [u32])
-    requires { ⌜ (length (now edges) ≤ maxEdges) × (below 262144 (now edges) ≡ true) × (length (now firsts) ≡ 513) ⌝ }
+    requires { ⌜ (length (now edges) ≤ maxEdges) × (below edgeNumbers (now edges) ≡ true) × (length (now firsts) ≡ startsSize) ⌝ }
     requires { ⌜ ((v : ℕ) → getD (now firsts) v 0 ≡ 0) ⌝ }
     ensures { λ r. ⌜ Noted (now (edges .entry)) (now (firsts .exit)) ⌝ }
 {
@@ -42,8 +42,8 @@ pub fn note_ends(edges: &[u32], firsts: &mut [u32])
 
 // Where nothing was noted, the place before goes on; it is carried along, so that no read waits for a store.
 pub fn fill_in(firsts: &mut [u32])
-    requires { ⌜ length (now firsts) ≡ 513 ⌝ }
-    ensures { λ r. ⌜ (length (now (firsts .exit)) ≡ 513) × ((v : ℕ) → v < 513 → getD (now (firsts .exit)) v 0 ≡ filled (now (firsts .entry)) v) ⌝ }
+    requires { ⌜ length (now firsts) ≡ startsSize ⌝ }
+    ensures { λ r. ⌜ (length (now (firsts .exit)) ≡ startsSize) × ((v : ℕ) → v < startsSize → getD (now (firsts .exit)) v 0 ≡ filled (now (firsts .entry)) v) ⌝ }
 {
     let mut place = firsts[0];
     let mut v = 1;
@@ -59,7 +59,7 @@ pub fn fill_in(firsts: &mut [u32])
 
 // Builds the index of where the edges of each node begin, in a table that is zero.
 pub fn index_starts(edges: &[u32], firsts: &mut [u32])
-    requires { ⌜ (length (now edges) ≤ maxEdges) × (ascends (now edges) ≡ true) × (below 262144 (now edges) ≡ true) × (length (now firsts) ≡ 513) ⌝ }
+    requires { ⌜ (length (now edges) ≤ maxEdges) × (ascends (now edges) ≡ true) × (below edgeNumbers (now edges) ≡ true) × (length (now firsts) ≡ startsSize) ⌝ }
     requires { ⌜ ((v : ℕ) → getD (now firsts) v 0 ≡ 0) ⌝ }
     ensures { λ r. ⌜ Started (now (edges .entry)) (now (firsts .exit)) ⌝ }
 {

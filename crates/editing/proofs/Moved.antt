@@ -6,7 +6,7 @@ use mathlib.Core.Bool.{true, false}
 use mathlib.Core.List.{List}
 use lib.ListN.{length, take, drop, length-append, length-drop}
 use Rattle.simulation.proofs.Sets.{clash}
-use Rattle.session.specs.Limits.{fixedSize, marksAt}
+use Rattle.session.specs.Limits.{fixedSize, marksAt, maxNodes}
 use Rattle.session.specs.Trigger.{Trigger, Graph, Marks, admits}
 use Rattle.session.specs.Layout.{image, triggerOf, graphOf, marksOf, validMarks, inLayout}
 use Rattle.session.proofs.Valid.{GraphFacts}
@@ -96,7 +96,7 @@ module _ (k : Kind) (xs : List ℕ) (a b : ℕ) (h : inLayout xs ≡ true) (ok :
     pub saved-calm : (bs : List ℕ) → Saved xs xs₁ bs true
     saved-calm bs = record { same = λ e. moved-marks; saved = λ e. clash refl e }
 
-    pub saved-before : (xs₂ bs : List ℕ) → bs ≡ take 512 (drop marksAt xs₁) → Saved xs xs₂ bs false
+    pub saved-before : (xs₂ bs : List ℕ) → bs ≡ take maxNodes (drop marksAt xs₁) → Saved xs xs₂ bs false
     saved-before xs₂ bs e = record { same = λ t. clash t refl; saved = λ t. ap marked e ∙ held-marks xs₁ moved-layout ∙ moved-marks }
 
     -- no mark changes

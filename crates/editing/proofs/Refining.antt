@@ -11,7 +11,7 @@ use Rattle.simulation.specs.Pattern.{system}
 use Rattle.simulation.proofs.Sets.{clash, or-r}
 use Rattle.bits.specs.Word.{members}
 use Rattle.bits.proofs.Words.{zero-members}
-use Rattle.session.specs.Limits.{marksAt}
+use Rattle.session.specs.Limits.{marksAt, maxNodes}
 use Rattle.session.specs.Trigger.{Trigger, Graph, Marks, states, nodes, pattern}
 use Rattle.session.specs.Layout.{triggerOf, graphOf, inLayout}
 use Rattle.session.proofs.Decoded.{LayoutFacts, layout-facts}
@@ -30,7 +30,7 @@ start-waits ws ws' a e v idle is =
     clash (ap (λ (X : Set). X v) e ∙ or-r (waits ws v) (eq-eqb v a is)) idle
 
 module _ (xs : List ℕ) (h : inLayout xs ≡ true) (links edges : List ℕ) (links-is : links ≡ triggerOf xs .links) (edges-is : edges ≡ graphOf xs .edges)
-    (ss ts ws ts' : List ℕ) (settled : Settled (getD xs 1 0) links edges ss ts ws ts') (long : length ts ≡ 512) (inside : Inside xs ts) where
+    (ss ts ws ts' : List ℕ) (settled : Settled (getD xs 1 0) links edges ss ts ws ts') (long : length ts ≡ maxNodes) (inside : Inside xs ts) where
   abbrev t : Trigger
   t = triggerOf xs
 
@@ -62,7 +62,7 @@ module _ (xs : List ℕ) (h : inLayout xs ≡ true) (links edges : List ℕ) (li
   }
 
   -- the marks are settled, each node with a trial waits
-  pub trials-refined : ss ≡ take 512 (drop marksAt xs) → ((v : ℕ) → (getD ts v 0 ≡ 0 → ⊥) → waits ws v ≡ true)
+  pub trials-refined : ss ≡ take maxNodes (drop marksAt xs) → ((v : ℕ) → (getD ts v 0 ≡ 0 → ⊥) → waits ws v ≡ true)
       → Holds xs (refined (system (pattern (triggerOf xs) (graphOf xs))) (markedPairs xs) (pairsOf (triggerOf xs) (graphOf xs) (marked ts))) ts'
   trials-refined full all =
       subst (λ (s : Marks). Holds xs (refined (system (pattern t g)) (pairsOf t g s) (pairsOf t g (marked ts))) ts') (ap marked full ∙ held-marks xs h)

@@ -11,7 +11,7 @@ use Rattle.simulation.specs.Pattern.{pair, system}
 use Rattle.session.specs.Limits.{maxNodes, maxChanges, fixedSize}
 use Rattle.session.specs.Trigger.{Marks, states, nodes, linked, admits, pattern}
 use Rattle.session.specs.Layout.{triggerOf, graphOf, marksOf, inLayout}
-use Rattle.bits.specs.Word.{members}
+use Rattle.bits.specs.Word.{members, setBits}
 use Rattle.pair_tables.specs.Tables.{marked}
 use Rattle.edge_indexes.specs.Indexes.{endsAt}
 use Rattle.promises.specs.Standing.{pairsOf, fresh, trialSet}
@@ -40,7 +40,7 @@ seedsOf xs a b u =
 
 -- a state of the word w is fresh at the node v
 abbrev pub freshAmong : List ℕ → ℕ → ℕ → Bool
-freshAmong xs w v = anyBelow 32 (λ u. members w u && (ltb u (states (triggerOf xs)) && fresh (triggerOf xs) (graphOf xs) (marksOf xs) u v))
+freshAmong xs w v = anyBelow setBits (λ u. members w u && (ltb u (states (triggerOf xs)) && fresh (triggerOf xs) (graphOf xs) (marksOf xs) u v))
 
 -- none is at a node with an edge to a
 unfoldable pub aloneAt : List ℕ → ℕ → ℕ → Bool

@@ -19,12 +19,12 @@ use Rattle.simulation.proofs.System.{closure-seed, closure-step, reaches-take}
 use Rattle.simulation.proofs.Pattern.{pair-state, pair-node, pair-inside, paired-pair, meets-take, meets-make}
 use Rattle.simulation.proofs.Loops.{grown-whole, without-falls}
 use Rattle.simulation.proofs.Search.{first-at, first-before}
-use Rattle.bits.specs.Word.{members}
+use Rattle.bits.specs.Word.{members, setBits}
 use Rattle.session.specs.Limits.{maxNodes}
 use Rattle.links.specs.Links.{linksTo}
 use Rattle.pair_tables.specs.Tables.{marked}
-use Rattle.worklist.specs.Waiting.{waits}
-use Rattle.edge_indexes.specs.Indexes.{predecessors}
+use Rattle.worklist.specs.Waiting.{waits, waitingWords}
+use Rattle.edge_indexes.specs.Indexes.{predecessors, startsSize}
 use Rattle.refinement.specs.Refining.{Sound, patternOf, tabled}
 use Rattle.refinement.proofs.Settling.{fewer, joins-predecessors, predecessors-joins}
 use Rattle.growth.specs.Growth.{Spread, Grown}
@@ -32,7 +32,7 @@ use Rattle.growth.specs.Growth.{Spread, Grown}
 -- what holds before each look, where v is the lowest node that waits
 pub record Growing (nodes : ℕ) (links es fs seeds ts ws : List ℕ) (v : ℕ) : Type 0 where
   pub long : length ts ≡ maxNodes
-  pub waits-long : length ws ≡ 16
+  pub waits-long : length ws ≡ waitingWords
   pub lowest : v ≡ first (waits ws) 0 maxNodes
   pub fresh : (u w : ℕ) → marked ts u w ≡ true → marked fs u w ≡ true
   pub seeded : (u w : ℕ) → marked seeds u w ≡ true → marked ts u w ≡ true
@@ -45,7 +45,7 @@ pub record Growing (nodes : ℕ) (links es fs seeds ts ws : List ℕ) (v : ℕ) 
 -- the fresh pairs that are not tried, and the nodes that wait
 abbrev pub left : ℕ → List ℕ → List ℕ → List ℕ → List ℕ → List ℕ → ℕ
 left nodes links es fs ts ws =
-    513 * count (nodes * length links) (minus (tabled nodes links es fs) (tabled nodes links es ts)) + count maxNodes (waits ws)
+    startsSize * count (nodes * length links) (minus (tabled nodes links es fs) (tabled nodes links es ts)) + count maxNodes (waits ws)
 
 module _ (nodes : ℕ) (links es : List ℕ) (sound : Sound nodes links es) (fs : List ℕ)
     (fits : (u v : ℕ) → marked fs u v ≡ true → (u < length links) × (v < nodes)) where
@@ -90,7 +90,7 @@ module _ (nodes : ℕ) (links es : List ℕ) (sound : Sound nodes links es) (fs 
         let rest = marked fs u w && linksTo links (getD ts v 0) u in
         let l = and-r (marked fs u w) (linksTo links (getD ts v 0) u) (and-r (predecessors es v w) rest h) in
         let test : Set = λ o. members (getD links u 0) o && members (getD ts v 0) o in
-        let r = any-take 32 test (and-r (ltb u n) (anyBelow 32 test) l) in
+        let r = any-take setBits test (and-r (ltb u n) (anyBelow setBits test) l) in
         let o = r .0 in (
           predecessors-joins nodes links es sound w v (and-l (predecessors es v w) rest h),
           (
@@ -106,7 +106,7 @@ module _ (nodes : ℕ) (links es : List ℕ) (sound : Sound nodes links es) (fs 
         and-make (joins-predecessors nodes links es sound w v j)
         (and-make f
         (and-make (lt-ltb u n l)
-        (any-make 32 (λ o. members (getD links u 0) o && members (getD ts v 0) o) o (omega (arith, sound .few-states)) (and-make d h))))
+        (any-make setBits (λ o. members (getD links u 0) o && members (getD ts v 0) o) o (omega (arith, sound .few-states)) (and-make d h))))
 
     -- ---- the trial set
 
@@ -220,7 +220,7 @@ module _ (nodes : ℕ) (links es : List ℕ) (sound : Sound nodes links es) (fs 
   -- ---- the whole growth
 
   module _ (seeds : List ℕ) where
-    pub growing-start : {ws : List ℕ} {v : ℕ} → length seeds ≡ maxNodes → length ws ≡ 16 → v ≡ first (waits ws) 0 maxNodes
+    pub growing-start : {ws : List ℕ} {v : ℕ} → length seeds ≡ maxNodes → length ws ≡ waitingWords → v ≡ first (waits ws) 0 maxNodes
         → ((u w : ℕ) → marked seeds u w ≡ true → (marked fs u w ≡ true) × (waits ws w ≡ true)) → Growing nodes links es fs seeds seeds ws v
     growing-start long waits-long lowest seed =
         record {

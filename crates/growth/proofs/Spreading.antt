@@ -16,11 +16,12 @@ use Rattle.bits.specs.Word.{members}
 use Rattle.bits.proofs.Words.{and-members, same-members}
 use Rattle.links.specs.Links.{linksTo}
 use Rattle.pair_tables.specs.Tables.{marked}
-use Rattle.worklist.specs.Waiting.{waits}
+use Rattle.worklist.specs.Waiting.{waits, waitingWords}
 use Rattle.edge_indexes.specs.Indexes.{Indexed}
 use Rattle.refinement.specs.Refining.{Sound}
 use Rattle.edge_indexes.proofs.Incoming.{Chained, chained-head, chained-next, called, called-head, called-next, called-all}
 use Rattle.growth.specs.Growth.{TriedAt, Spread}
+use Rattle.session.specs.Limits.{maxNodes}
 
 -- ---- a node that gains states
 
@@ -66,14 +67,14 @@ module _ (ts ws : List ℕ) (v more wider : ℕ) (wide : members wider ≡ union
 
 -- `able` are the states with a link to v; the predecessors by the other edges have their pairs, and wait where they gained one
 pub record Spreading (es fs : List ℕ) (v able : ℕ) (ts ws ts' ws' : List ℕ) (n : ℕ) : Type 0 where
-  pub table-long : length ts' ≡ 512
-  pub waits-long : length ws' ≡ 16
+  pub table-long : length ts' ≡ maxNodes
+  pub waits-long : length ws' ≡ waitingWords
   pub chain : Chained es v n
   pub words : (u w : ℕ) → marked ts' u w ≡ (marked ts u w || (called es v n w && (marked fs u w && members able u)))
   pub waiting : (w : ℕ) → waits ws' w ≡ (waits ws w || not (eqb (getD ts' w 0) (getD ts w 0)))
 
 module _ {es heads nexts : List ℕ} (x : Indexed es heads nexts) (fs : List ℕ) (v able : ℕ) (ts ws : List ℕ) where
-  pub spreading-start : v < 512 → length ts ≡ 512 → length ws ≡ 16 → Spreading es fs v able ts ws ts ws (getD heads v 0)
+  pub spreading-start : v < maxNodes → length ts ≡ maxNodes → length ws ≡ waitingWords → Spreading es fs v able ts ws ts ws (getD heads v 0)
   spreading-start h long waits-long =
       record {
         table-long = long;
@@ -85,9 +86,9 @@ module _ {es heads nexts : List ℕ} (x : Indexed es heads nexts) (fs : List ℕ
 
   module _ {ts' ws' : List ℕ} {n : ℕ} (y : Spreading es fs v able ts ws ts' ws' n) (some : n ≡ 0 → ⊥) where
     abbrev start : ℕ
-    start = getD es (n - 1) 0 / 512
+    start = getD es (n - 1) 0 / maxNodes
 
-    pub spreading-more : {ts'' ws'' : List ℕ} → TriedAt ts' ws' (getD es (n - 1) 0 / 512) (bitAnd able (getD fs (getD es (n - 1) 0 / 512) 0)) ts'' ws''
+    pub spreading-more : {ts'' ws'' : List ℕ} → TriedAt ts' ws' (getD es (n - 1) 0 / maxNodes) (bitAnd able (getD fs (getD es (n - 1) 0 / maxNodes) 0)) ts'' ws''
         → Spreading es fs v able ts ws ts'' ws'' (getD nexts (n - 1) 0)
     spreading-more {ts''} {ws''} t =
         record {
@@ -143,12 +144,12 @@ module _ {es heads nexts : List ℕ} (x : Indexed es heads nexts) (fs : List ℕ
             ∙ ap (λ (b : Bool). waits ws w || b) (joined (getD ts w 0) (getD ts' w 0) (getD ts'' w 0) (grows w))
 
 -- the last edge that is left starts at a node
-pub starts-inside : {links es : List ℕ} {v n : ℕ} → Sound 512 links es → Chained es v n → (n ≡ 0 → ⊥) → getD es (n - 1) 0 / 512 < 512
+pub starts-inside : {links es : List ℕ} {v n : ℕ} → Sound maxNodes links es → Chained es v n → (n ≡ 0 → ⊥) → getD es (n - 1) 0 / maxNodes < maxNodes
 starts-inside {links} {es} {v} {n} sound y some = sound .starts (n - 1) (omega (arith, some, y .within))
 
 -- no edge is left
 pub spreading-done : (links : List ℕ) {es fs : List ℕ} {v able : ℕ} {ts ws ws₁ ts' ws' : List ℕ} → Spreading es fs v able ts ws₁ ts' ws' 0
-    → length ts ≡ 512 → length ws ≡ 16 → members able ≡ linksTo links (getD ts v 0) → waits ws₁ ≡ without (waits ws) v
+    → length ts ≡ maxNodes → length ws ≡ waitingWords → members able ≡ linksTo links (getD ts v 0) → waits ws₁ ≡ without (waits ws) v
     → Spread links es fs ts ws v ts' ws'
 spreading-done links {es} {fs} {v} {able} {ts} {ws} {ws₁} {ts'} {ws'} y long waits-long linked out =
     record {

@@ -5,7 +5,7 @@ ghost use Prim.Native.Nat.{ℕ, _<_};
 ghost use lib.ListN.{length};
 ghost use Rattle.session.specs.Limits.{maxNodes};
 ghost use Rattle.pair_tables.specs.Tables.{marked};
-ghost use Rattle.worklist.specs.Waiting.{waits};
+ghost use Rattle.worklist.specs.Waiting.{waits, waitingWords};
 ghost use Rattle.links.specs.Links.{Callers};
 ghost use Rattle.edge_indexes.specs.Indexes.{Indexed};
 ghost use Rattle.refinement.specs.Refining.{Sound};
@@ -19,7 +19,7 @@ use worklist::take_out;
 
 // Tries more states at a node. It waits where it gains one, for its predecessors may gain by it.
 pub fn try_at(trials: &mut [u32], waiting: &mut [u32], node: usize, more: u32)
-    requires { ⌜ (length (now trials) ≡ maxNodes) × (length (now waiting) ≡ 16) × (node < maxNodes) ⌝ }
+    requires { ⌜ (length (now trials) ≡ maxNodes) × (length (now waiting) ≡ waitingWords) × (node < maxNodes) ⌝ }
     ensures { λ r. ⌜ TriedAt (now (trials .entry)) (now (waiting .entry)) node more (now (trials .exit)) (now (waiting .exit)) ⌝ }
 {
     let word = trials[node];
@@ -42,7 +42,7 @@ pub fn spread(
     nexts: &[u32],
     v: usize,
 )
-    requires { ⌜ (length (now fresh) ≡ maxNodes) × (length (now trials) ≡ maxNodes) × (length (now waiting) ≡ 16) × (v < maxNodes) ⌝ }
+    requires { ⌜ (length (now fresh) ≡ maxNodes) × (length (now trials) ≡ maxNodes) × (length (now waiting) ≡ waitingWords) × (v < maxNodes) ⌝ }
     requires { ⌜ Sound maxNodes (now links) (now edges) × Indexed (now edges) (now heads) (now nexts) × Callers (now links) (now callers) ⌝ }
     ensures { λ r. ⌜ Spread (now (links .entry)) (now (edges .entry)) (now (fresh .entry)) (now (trials .entry)) (now (waiting .entry)) v (now (trials .exit)) (now (waiting .exit)) ⌝ }
 {
@@ -68,7 +68,7 @@ pub fn grow(
     heads: &[u32],
     nexts: &[u32],
 )
-    requires { ⌜ (length (now fresh) ≡ maxNodes) × (length (now trials) ≡ maxNodes) × (length (now waiting) ≡ 16) ⌝ }
+    requires { ⌜ (length (now fresh) ≡ maxNodes) × (length (now trials) ≡ maxNodes) × (length (now waiting) ≡ waitingWords) ⌝ }
     requires { ⌜ Sound nodes (now links) (now edges) × Indexed (now edges) (now heads) (now nexts) ⌝ }
     requires { ⌜ ((u v : ℕ) → marked (now fresh) u v ≡ true → (u < length (now links)) × (v < nodes)) ⌝ }
     requires { ⌜ ((u v : ℕ) → marked (now trials) u v ≡ true → (marked (now fresh) u v ≡ true) × (waits (now waiting) v ≡ true)) ⌝ }

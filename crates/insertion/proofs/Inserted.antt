@@ -23,10 +23,11 @@ use Rattle.session_parts.specs.Inside.{Inside}
 use Rattle.editing.specs.Steps.{Holds, markedPairs, seedsOf}
 use Rattle.editing.proofs.Moved.{moved-trigger, moved-graph, moved-marks, moved-layout, done-same, done-stored}
 use Rattle.insertion.proofs.Inserting.{none-tried, untried-right, tried-count, tried-few, all-inside, all-more, all-valid, inserted-right}
+use Rattle.session.specs.Limits.{maxEdges}
 
 module _ (xs : List ℕ) (a b : ℕ) (h : inLayout xs ≡ true) (ok : verdict (graphRules insertion (graphOf xs) a b) ≡ 0) (xs₁ : List ℕ)
     (moved : Left (triggerOf xs) (edited insertion (graphOf xs) a b) (marksOf xs) xs xs₁) where
-  abbrev passed : (a < nodes (graphOf xs)) × (b < nodes (graphOf xs)) × (edge (graphOf xs) a b ≡ false) × (length (graphOf xs .edges) < 2048)
+  abbrev passed : (a < nodes (graphOf xs)) × (b < nodes (graphOf xs)) × (edge (graphOf xs) a b ≡ false) × (length (graphOf xs .edges) < maxEdges)
   passed = insertion-passed (graphOf xs) a b ok
 
   -- the session with the edge in it

@@ -16,7 +16,7 @@ use Rattle.simulation.specs.Ordered.{ascends}
 use Rattle.simulation.proofs.Sets.{same, refuted, and-make, and-l, and-r, implies-make, implies-take, all-make, all-take}
 use Rattle.simulation.proofs.Search.{lt-or-le}
 use Rattle.simulation.proofs.Ordered.{rising-make, elem-at}
-use Rattle.bits.specs.Word.{members, word, within}
+use Rattle.bits.specs.Word.{members, word, within, setBits}
 use Rattle.bits.proofs.Words.{zero-members, word-below, word-same, members-word}
 use Rattle.bits.proofs.Gathers.{gathers}
 use Rattle.session.specs.Limits.{
@@ -335,12 +335,12 @@ module _ (xs : List ℕ) (p n m : ℕ) (h : m ≤ n) (long : p + n ≤ length xs
       ∙ ap (take (n - m)) (drop-drop m p xs)
       ∙ ap (part xs (p + m)) d
 
-  pub fits-unions : (k inside unused : ℕ) → inside < 2 ^ 32
+  pub fits-unions : (k inside unused : ℕ) → inside < 2 ^ setBits
       → members inside ≡ gathers (length (part xs p (p + m - p))) (λ i. members (getD (part xs p (p + m - p)) i 0))
       → members unused ≡ gathers (length (part xs (p + m) (p + n - (p + m)))) (λ i. members (getD (part xs (p + m) (p + n - (p + m))) i 0))
-      → (within 32 inside (2 ^ k - 1) && eqb unused 0) ≡ fits k m (part xs p n)
+      → (within setBits inside (2 ^ k - 1) && eqb unused 0) ≡ fits k m (part xs p n)
   fits-unions k inside unused l e d =
-      fits-gathered 32 k m inside unused (part xs p n) (omega (arith, part-length xs p n long)) l
+      fits-gathered setBits k m inside unused (part xs p n) (omega (arith, part-length xs p n long)) l
       (subst (λ (ys : List ℕ). members inside ≡ gathers (length ys) (λ i. members (getD ys i 0))) (sym part-front) e)
       (subst (λ (ys : List ℕ). members unused ≡ gathers (length ys) (λ i. members (getD ys i 0))) (sym part-rest) d)
 

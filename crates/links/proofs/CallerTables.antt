@@ -11,7 +11,7 @@ use lib.Seq.{getD-set-same, getD-set-other}
 use borrow.Author.Tests.{le-ltb, eqb-true, eqb-false, eq-eqb}
 use Rattle.simulation.specs.Sets.{Set, also, without}
 use Rattle.simulation.proofs.Sets.{split, same, and-make, and-l, and-r, any-make, any-take}
-use Rattle.bits.specs.Word.{members, overlaps}
+use Rattle.bits.specs.Word.{members, overlaps, setBits}
 use Rattle.bits.proofs.Words.{zero-members}
 use Rattle.pair_tables.specs.Tables.{marked}
 use Rattle.links.specs.Links.{linkedFrom, linksTo, Callers}
@@ -59,10 +59,10 @@ module _ (entry : List ℕ) (targets u : ℕ) where
 module _ (links : List ℕ) where
   pub record Called (k : ℕ) (callers : List ℕ) : Type 0 where
     pub few : k ≤ length links
-    pub long : length callers ≡ 32
+    pub long : length callers ≡ setBits
     pub words : (x o : ℕ) → marked callers x o ≡ (ltb x k && marked links o x)
 
-  pub called-start : {callers : List ℕ} → length callers ≡ 32 → ((o : ℕ) → getD callers o 0 ≡ 0) → Called 0 callers
+  pub called-start : {callers : List ℕ} → length callers ≡ setBits → ((o : ℕ) → getD callers o 0 ≡ 0) → Called 0 callers
   called-start l z = record {
     few = omega arith;
     long = l;
@@ -96,15 +96,15 @@ callers-linked links callers c w = fun-ext (λ u. same (linkedFrom callers w u) 
     there u h =
         let r = any-take (length callers) (calls u) h in
         let o = r .0 in
-        let l : o < 32 = omega (arith, r .1, c .long) in
+        let l : o < setBits = omega (arith, r .1, c .long) in
         let both = sym (c .called o u l) ∙ and-r (members w o) (members (getD callers o 0) u) (r .2) in
         and-make (and-l (ltb u (length links)) (members (getD links u 0) o) both)
-        (any-make 32 (links-at u) o l
+        (any-make setBits (links-at u) o l
         (and-make (and-r (ltb u (length links)) (members (getD links u 0) o) both) (and-l (members w o) (members (getD callers o 0) u) (r .2))))
 
     back : (u : ℕ) → linksTo links w u ≡ true → linkedFrom callers w u ≡ true
     back u h =
-        let r = any-take 32 (links-at u) (and-r (ltb u (length links)) (overlaps (getD links u 0) w) h) in
+        let r = any-take setBits (links-at u) (and-r (ltb u (length links)) (overlaps (getD links u 0) w) h) in
         let o = r .0 in
         any-make (length callers) (calls u) o (omega (arith, r .1, c .long))
         (and-make (and-r (members (getD links u 0) o) (members w o) (r .2))

@@ -11,7 +11,7 @@ use lib.Bits.{bitOr}
 use Rattle.simulation.specs.Sets.{Set, none, also, without, minus}
 use Rattle.simulation.proofs.Sets.{clash, split, same, refuted, and-make, and-l, and-r, or-l, or-r, or-take, not-make, any-make, any-take}
 use Rattle.simulation.proofs.Edges.{any-same}
-use Rattle.bits.specs.Word.{members, overlaps}
+use Rattle.bits.specs.Word.{members, overlaps, setBits}
 use Rattle.bits.proofs.Words.{zero-members, or-members}
 use Rattle.links.specs.Links.{linkedFrom, linksTo}
 use Rattle.simulation.proofs.Gains.{gained-none, gained-more, gained-pass}
@@ -39,7 +39,7 @@ pub links-none : (links : List ℕ) (u : ℕ) → (ltb u (length links) && overl
 links-none links u =
     refuted (ltb u (length links) && overlaps (getD links u 0) 0)
     (λ h.
-    let r = any-take 32 (λ o. members (getD links u 0) o && members 0 o) (and-r (ltb u (length links)) (overlaps (getD links u 0) 0) h) in
+    let r = any-take setBits (λ o. members (getD links u 0) o && members 0 o) (and-r (ltb u (length links)) (overlaps (getD links u 0) 0) h) in
     clash (and-r (members (getD links u 0) (r .0)) (members 0 (r .0)) (r .2)) (zero-members (r .0)))
 
 -- ---- the states to which a state of a word has a link: `rest` is what is left of the word, and `all` has the links of the others

@@ -10,7 +10,7 @@ use lib.ListN.{length, getD}
 use borrow.Author.Tests.{ltb-true, lt-ltb, eqb-true, eq-eqb}
 use Rattle.simulation.specs.Sets.{Set, union, minus, without, count}
 use Rattle.simulation.proofs.Sets.{clash, split, same, and-make, and-l, and-r, and-none, or-l, or-r, or-take, or-none, or-false-l, or-false-r, not-make, not-take, count-drop}
-use Rattle.bits.specs.Word.{members}
+use Rattle.bits.specs.Word.{members, setBits}
 use Rattle.bits.proofs.Words.{zero-members, and-members, or-members, only-members}
 use Rattle.session.specs.Trigger.{linked}
 use Rattle.session.specs.Reached.{reached, linkedBy}
@@ -121,9 +121,9 @@ module _ (links : List ℕ) where
       }
 
       -- one fewer is left or waits
-      pub reaching-less : u < 32 → count 32 (union (members left') (members (bitOr more new))) < count 32 (union (members left) (members rest))
+      pub reaching-less : u < setBits → count setBits (union (members left') (members (bitOr more new))) < count setBits (union (members left) (members rest))
       reaching-less l =
-          count-drop 32 (union (members left') (members (bitOr more new))) (union (members left) (members rest))
+          count-drop setBits (union (members left') (members (bitOr more new))) (union (members left) (members rest))
           (λ x h.
           ⊎-elim
           (λ a. or-l (members rest x) (and-l (members left x) (not (members new x)) (sym (left-at x) ∙ a)))

@@ -6,7 +6,7 @@ use mathlib.Core.List.{List}
 use lib.Dec.{ltb}
 use lib.ListN.{length, getD}
 use Rattle.simulation.specs.Sets.{Set, anyBelow}
-use Rattle.bits.specs.Word.{members, overlaps}
+use Rattle.bits.specs.Word.{members, overlaps, setBits}
 
 -- the states to which a state of the word w has a link
 abbrev pub linkedFrom : List ℕ → ℕ → Set
@@ -18,5 +18,5 @@ linksTo links w u = ltb u (length links) && overlaps (getD links u 0) w
 
 -- for each state the states with a link to it
 pub record Callers (links callers : List ℕ) : Type 0 where
-  pub long : length callers ≡ 32
-  pub called : (o u : ℕ) → o < 32 → members (getD callers o 0) u ≡ (ltb u (length links) && members (getD links u 0) o)
+  pub long : length callers ≡ setBits
+  pub called : (o u : ℕ) → o < setBits → members (getD callers o 0) u ≡ (ltb u (length links) && members (getD links u 0) o)

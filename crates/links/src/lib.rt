@@ -3,7 +3,7 @@ ghost use mathlib.Core.Path.{_≡_};
 ghost use Prim.Native.Nat.{ℕ, _≤_, _<_};
 ghost use lib.ListN.{length, getD};
 ghost use Rattle.simulation.specs.Sets.{minus};
-ghost use Rattle.bits.specs.Word.{members};
+ghost use Rattle.bits.specs.Word.{members, setBits};
 ghost use Rattle.session.specs.Reached.{reached, linkedBy};
 ghost use Rattle.links.specs.Links.{linkedFrom, linksTo, Callers};
 ghost use mathlib.Core.Bool.{_&&_, _||_};
@@ -11,7 +11,7 @@ ghost use lib.Dec.{eqb};
 
 // The states to which a state of the word has a link.
 pub fn linked(links: &[u32], word: u32) -> u32
-    requires { ⌜ length (now links) ≤ 32 ⌝ }
+    requires { ⌜ length (now links) ≤ setBits ⌝ }
     ensures { λ r. ⌜ members r ≡ linkedFrom (now (links .entry)) word ⌝ }
 {
     let mut all = 0;
@@ -26,7 +26,7 @@ pub fn linked(links: &[u32], word: u32) -> u32
 
 // The states with a link to a state of the word.
 pub fn linking(links: &[u32], word: u32) -> u32
-    requires { ⌜ length (now links) ≤ 32 ⌝ }
+    requires { ⌜ length (now links) ≤ setBits ⌝ }
     ensures { λ r. ⌜ members r ≡ linksTo (now (links .entry)) word ⌝ }
 {
     let mut all = 0;
@@ -42,7 +42,7 @@ pub fn linking(links: &[u32], word: u32) -> u32
 
 // The states of the word without a link to one of the others. Only its members are gone through.
 pub fn unlinked(links: &[u32], word: u32, others: u32) -> u32
-    requires { ⌜ length (now links) ≤ 32 ⌝ }
+    requires { ⌜ length (now links) ≤ setBits ⌝ }
     ensures { λ r. ⌜ members r ≡ minus (members word) (linksTo (now (links .entry)) others) ⌝ }
 {
     let mut left = word;
@@ -60,7 +60,7 @@ pub fn unlinked(links: &[u32], word: u32, others: u32) -> u32
 // The states that a chain of links reaches from State One. Each is gone through once; `left` has those that no chain has met, `rest` those whose links
 // are still to be followed.
 pub fn reached(links: &[u32]) -> u32
-    requires { ⌜ (0 < length (now links)) × (length (now links) ≤ 32) ⌝ }
+    requires { ⌜ (0 < length (now links)) × (length (now links) ≤ setBits) ⌝ }
     ensures { λ r. ⌜ members r ≡ reached (linkedBy (now (links .entry))) ⌝ }
 {
     let all = bits::below(links.len() as u32);
@@ -76,11 +76,11 @@ pub fn reached(links: &[u32]) -> u32
 }
 
 // A word for each number that a link may name.
-pub const CALLERS: usize = 32;
+pub const CALLERS: usize = bits::SET_BITS;
 
 // Puts a state into the words of its targets.
 pub fn call_for(callers: &mut [u32], targets: u32, u: u32)
-    requires { ⌜ (length (now callers) ≡ 32) × (u < 32) ⌝ }
+    requires { ⌜ (length (now callers) ≡ setBits) × (u < setBits) ⌝ }
     ensures { λ r. ⌜ ((x o : ℕ) → members (getD (now (callers .exit)) o 0) x ≡ (members (getD (now (callers .entry)) o 0) x || (eqb x u && members targets o))) ⌝ }
 {
     let mut rest = targets;
@@ -93,7 +93,7 @@ pub fn call_for(callers: &mut [u32], targets: u32, u: u32)
 
 // Fills a table that is zero with the callers of each state.
 pub fn index_callers(links: &[u32], callers: &mut [u32])
-    requires { ⌜ (length (now links) ≤ 32) × (length (now callers) ≡ 32) × ((o : ℕ) → getD (now callers) o 0 ≡ 0) ⌝ }
+    requires { ⌜ (length (now links) ≤ setBits) × (length (now callers) ≡ setBits) × ((o : ℕ) → getD (now callers) o 0 ≡ 0) ⌝ }
     ensures { λ r. ⌜ Callers (now (links .entry)) (now (callers .exit)) ⌝ }
 {
     let mut u = 0;
@@ -105,7 +105,7 @@ pub fn index_callers(links: &[u32], callers: &mut [u32])
 
 // The states with a link to a state of the word: of one state by the table; of several, or where there is no table, by one pass over all links.
 pub fn calling(links: &[u32], callers: &[u32], word: u32) -> u32
-    requires { ⌜ (length (now links) ≤ 32) × ((length (now callers) ≡ 0 → ⊥) → Callers (now links) (now callers)) ⌝ }
+    requires { ⌜ (length (now links) ≤ setBits) × ((length (now callers) ≡ 0 → ⊥) → Callers (now links) (now callers)) ⌝ }
     ensures { λ r. ⌜ members r ≡ linksTo (now (links .entry)) word ⌝ }
 {
     if callers.len() == 0 {

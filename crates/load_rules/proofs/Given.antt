@@ -5,9 +5,10 @@ use mathlib.Core.Path.{_≡_}
 use mathlib.Core.Bool.{Bool, false, not, _||_}
 use lib.Dec.{ltb, eqb}
 use Rattle.simulation.proofs.Sets.{or-false-l, or-false-r}
+use Rattle.session.specs.Limits.{maxEdges, maxStates}
 
-pub few-states : (n : ℕ) (b : Bool) → ((eqb n 0 || ltb 16 n) || b) ≡ false → n ≤ 16
-few-states n b e = ltb-false 16 n (or-false-r (eqb n 0) (ltb 16 n) (or-false-l (eqb n 0 || ltb 16 n) b e))
+pub few-states : (n : ℕ) (b : Bool) → ((eqb n 0 || ltb maxStates n) || b) ≡ false → n ≤ maxStates
+few-states n b e = ltb-false maxStates n (or-false-r (eqb n 0) (ltb maxStates n) (or-false-l (eqb n 0 || ltb maxStates n) b e))
 
-pub ends-given : (m n : ℕ) → (ltb 2048 n || not (eqb m n)) ≡ false → m ≡ n
-ends-given m n e = eqb-true m n (not-false (eqb m n) (or-false-r (ltb 2048 n) (not (eqb m n)) e))
+pub ends-given : (m n : ℕ) → (ltb maxEdges n || not (eqb m n)) ≡ false → m ≡ n
+ends-given m n e = eqb-true m n (not-false (eqb m n) (or-false-r (ltb maxEdges n) (not (eqb m n)) e))

@@ -12,7 +12,7 @@ use Rattle.simulation.specs.Pattern.{pair, paired, system, best}
 use Rattle.simulation.proofs.Sets.{clash, same}
 use Rattle.simulation.proofs.System.{greatest-simulates, sandwich}
 use Rattle.simulation.proofs.Pattern.{pair-inside, paired-pair, best-make, best-pair, node-inside, state-inside}
-use Rattle.bits.specs.Word.{members}
+use Rattle.bits.specs.Word.{members, setBits}
 use Rattle.bits.proofs.Words.{full-members}
 use Rattle.session.specs.Limits.{maxNodes}
 use Rattle.session.specs.Trigger.{Trigger, Graph, Marks, states, nodes, pattern}
@@ -22,7 +22,7 @@ use Rattle.pair_tables.specs.Tables.{marked}
 use Rattle.pair_tables.proofs.Tabling.{marked-none}
 use Rattle.session_parts.specs.Admission.{AdmittedPairs}
 use Rattle.session_parts.proofs.Admitted.{admitted-take, admitted-make}
-use Rattle.worklist.specs.Waiting.{waits}
+use Rattle.worklist.specs.Waiting.{waits, waitingWords}
 use Rattle.refinement.specs.Refining.{Settled}
 use Rattle.promises.specs.Standing.{stands}
 use Rattle.promises.proofs.Stands.{stands-inside}
@@ -30,11 +30,11 @@ use Rattle.refinement.proofs.Systems.{settled-refined}
 use Rattle.loading.specs.Solved.{Solved}
 
 -- words that are all ones: every node waits
-pub all-wait : (v : ℕ) → v < maxNodes → waits (replicate 16 4294967295) v ≡ true
+pub all-wait : (v : ℕ) → v < maxNodes → waits (replicate waitingWords 4294967295) v ≡ true
 all-wait v l =
-    ap (λ (w : ℕ). members w (v % 32)) (getD-replicate 16 (v / 32) 4294967295 0 (omega arith))
-    ∙ ap (λ (X : Set). X (v % 32)) (full-members 32)
-    ∙ lt-ltb (v % 32) 32 (omega arith)
+    ap (λ (w : ℕ). members w (v % setBits)) (getD-replicate waitingWords (v / setBits) 4294967295 0 (omega arith))
+    ∙ ap (λ (X : Set). X (v % setBits)) (full-members setBits)
+    ∙ lt-ltb (v % setBits) setBits (omega arith)
 
 module _ (xs : List ℕ) (h : inLayout xs ≡ true) (r : ℕ) (ts₀ : List ℕ) (admitted : AdmittedPairs xs r ts₀) where
   abbrev facts : LayoutFacts xs

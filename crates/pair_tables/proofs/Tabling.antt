@@ -16,9 +16,9 @@ use Rattle.simulation.specs.Sets.{Set, count}
 use Rattle.simulation.proofs.Sets.{clash, refuted, split, count-le}
 use Rattle.simulation.proofs.Loops.{count-same, count-beyond, total, count-rows}
 use Rattle.simulation.proofs.Search.{lt-or-le}
-use Rattle.bits.specs.Word.{members}
+use Rattle.bits.specs.Word.{members, setBits}
 use Rattle.bits.proofs.Words.{zero-members, and-members}
-use Rattle.session.specs.Limits.{wordBits}
+use Rattle.session.specs.Limits.{wordBits, maxStates}
 use Rattle.session.specs.Trigger.{agrees, matches, accepts}
 use Rattle.session.proofs.Admission.{agrees-masked, matches-differs, accepts-turned}
 use Rattle.pair_tables.specs.Tables.{marked, turnedStates}
@@ -156,14 +156,14 @@ module _ (ts : List ℕ) (n : ℕ) where
   unfolding count total
   pairs-none = sym (count-rows n 0 (λ p. marked ts (p % n) (p / n)))
 
-  module _ (few : n ≤ 16) (inside : (u v : ℕ) → marked ts u v ≡ true → u < n) (v : ℕ) where
-    row : count 32 (members (getD ts v 0)) ≡ count n (members (getD ts v 0))
-    row = count-beyond n 32 (members (getD ts v 0)) (λ u m. inside u v m) (omega arith)
+  module _ (few : n ≤ maxStates) (inside : (u v : ℕ) → marked ts u v ≡ true → u < n) (v : ℕ) where
+    row : count setBits (members (getD ts v 0)) ≡ count n (members (getD ts v 0))
+    row = count-beyond n setBits (members (getD ts v 0)) (λ u m. inside u v m) (omega arith)
 
-    pub row-few : count 32 (members (getD ts v 0)) ≤ 16
+    pub row-few : count setBits (members (getD ts v 0)) ≤ maxStates
     row-few = omega (arith, row, count-le n (members (getD ts v 0)))
 
-    pub pairs-more : pairsTo (v + 1) ≡ pairsTo v + count 32 (members (getD ts v 0))
+    pub pairs-more : pairsTo (v + 1) ≡ pairsTo v + count setBits (members (getD ts v 0))
     unfolding total
     pairs-more =
         let X : Set = λ p. marked ts (p % n) (p / n) in
@@ -174,21 +174,21 @@ module _ (ts : List ℕ) (n : ℕ) where
         rw (add-one v) (omega (arith, all, before, here, row))
 
   -- one word alone: its pairs are all
-  module _ (few : n ≤ 16) (inside : (u v : ℕ) → marked ts u v ≡ true → u < n) (a : ℕ) (alone : (v : ℕ) → (v ≡ a → ⊥) → getD ts v 0 ≡ 0) where
-    no-member : count 32 (members 0) ≡ 0
+  module _ (few : n ≤ maxStates) (inside : (u v : ℕ) → marked ts u v ≡ true → u < n) (a : ℕ) (alone : (v : ℕ) → (v ≡ a → ⊥) → getD ts v 0 ≡ 0) where
+    no-member : count setBits (members 0) ≡ 0
     unfolding count
     no-member = refl
 
     idle : (v : ℕ) → (v ≡ a → ⊥) → pairsTo (v + 1) ≡ pairsTo v
     idle v ne =
-        let no-pair : count 32 (members (getD ts v 0)) ≡ 0 = ap (λ (w : ℕ). count 32 (members w)) (alone v ne) ∙ no-member in
+        let no-pair : count setBits (members (getD ts v 0)) ≡ 0 = ap (λ (w : ℕ). count setBits (members w)) (alone v ne) ∙ no-member in
         omega (arith, pairs-more few inside v, no-pair)
 
     up-to : (k : ℕ) → k ≤ a → pairsTo k ≡ 0
     up-to zero l = sym pairs-none
     up-to (suc k) l = ap pairsTo (sym (add-one k)) ∙ idle k (λ e. omega (arith, l, e)) ∙ up-to k (omega (arith, l))
 
-    pub pairs-single : (k : ℕ) → a < k → pairsTo k ≡ count 32 (members (getD ts a 0))
+    pub pairs-single : (k : ℕ) → a < k → pairsTo k ≡ count setBits (members (getD ts a 0))
     pairs-single zero l = absurd (omega (arith, l))
     pairs-single (suc k) l =
         ap pairsTo (sym (add-one k))

@@ -8,7 +8,7 @@ ghost use Rattle.session.specs.Layout.{below};
 ghost use Rattle.pair_tables.specs.Tables.{Admits, Admitted};
 ghost use lib.Dec.{ltb};
 ghost use Rattle.simulation.specs.Sets.{count};
-ghost use Rattle.bits.specs.Word.{members};
+ghost use Rattle.bits.specs.Word.{members, setBits};
 ghost use Rattle.session.specs.Trigger.{matches};
 ghost use Rattle.pair_tables.specs.Tables.{marked, turnedStates};
 
@@ -22,9 +22,9 @@ pub fn put_turned(
     u: u32,
     table: &mut [u32],
 ) -> u32
-    requires { ⌜ (mask < 2 ^ wordBits) × (u < 32) × (length (now samples) ≤ length (now table)) × (length (now samples) ≤ maxNodes) ⌝ }
-    requires { ⌜ ((b : Bool) × (turn ≡ cond b (2 ^ 32 - 1) 0)) ⌝ }
-    ensures { λ r. ⌜ ((b : Bool) → turn ≡ cond b (2 ^ 32 - 1) 0 → Admits (now (samples .entry)) b mask value u (now (table .entry)) r (now (table .exit))) ⌝ }
+    requires { ⌜ (mask < 2 ^ wordBits) × (u < setBits) × (length (now samples) ≤ length (now table)) × (length (now samples) ≤ maxNodes) ⌝ }
+    requires { ⌜ ((b : Bool) × (turn ≡ cond b (2 ^ setBits - 1) 0)) ⌝ }
+    ensures { λ r. ⌜ ((b : Bool) → turn ≡ cond b (2 ^ setBits - 1) 0 → Admits (now (samples .entry)) b mask value u (now (table .entry)) r (now (table .exit))) ⌝ }
 {
     let bit = bits::only(u);
     let mut count = 0;
@@ -41,7 +41,7 @@ pub fn put_turned(
 // Puts a state, turned round or not, into the words of the nodes that it admits; how many they are. The turn is known at each call, so that a plain state's
 // loop spends nothing on it, and a turned one's no more than the count.
 pub fn admit(samples: &[u32], turned: bool, mask: u32, value: u32, u: u32, table: &mut [u32]) -> u32
-    requires { ⌜ (mask < 2 ^ wordBits) × (u < 32) × (length (now samples) ≤ length (now table)) × (length (now samples) ≤ maxNodes) ⌝ }
+    requires { ⌜ (mask < 2 ^ wordBits) × (u < setBits) × (length (now samples) ≤ length (now table)) × (length (now samples) ≤ maxNodes) ⌝ }
     ensures { λ r. ⌜ Admits (now (samples .entry)) turned mask value u (now (table .entry)) r (now (table .exit)) ⌝ }
 {
     if turned {
@@ -54,7 +54,7 @@ pub fn admit(samples: &[u32], turned: bool, mask: u32, value: u32, u: u32, table
 // The states whose answer is turned round: the inverted ones, but for a mask of zero, which admits every node. It is told once for a state; no loop over nodes
 // asks again.
 pub fn turned_states(masks: &[u32], inverted: u32) -> u32
-    requires { ⌜ length (now masks) ≤ 32 ⌝ }
+    requires { ⌜ length (now masks) ≤ setBits ⌝ }
     ensures { λ r. ⌜ members r ≡ turnedStates (now (masks .entry)) inverted ⌝ }
 {
     if inverted == 0 {

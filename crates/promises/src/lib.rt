@@ -39,5 +39,5 @@ pub enum OrderAnswer {
 
 pub struct StateOrder {
     pub answer: OrderAnswer,
-    pub states: [u8; 16],
+    pub states: [u8; session::MAX_STATES],
 }

@@ -9,6 +9,7 @@ use promises::OrderAnswer;
 use promises::Standing;
 use promises::StateOrder;
 use reports::fires_now;
+use session::MAX_STATES;
 use session_parts::links_of;
 use walk_order::ordered;
 
@@ -84,7 +85,7 @@ pub fn order(session: &[u32]) -> StateOrder
     if broken != 0 {
         return StateOrder {
             answer: OrderAnswer::Refused(broken),
-            states: [0u8; 16],
+            states: [0u8; MAX_STATES],
         };
     }
     let count = session[0] as u8;

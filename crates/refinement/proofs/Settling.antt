@@ -23,14 +23,14 @@ use Rattle.simulation.proofs.Loops.{without-falls}
 use Rattle.simulation.proofs.Search.{found-make, found-take, first-at, first-before}
 use Rattle.simulation.proofs.Ordered.{Rising, rising-take, elem-at, elem-index}
 use Rattle.simulation.proofs.Edges.{all-same, elem-joins, joins-elem, from-le, from-mono, supported-edges}
-use Rattle.bits.specs.Word.{members, overlaps}
+use Rattle.bits.specs.Word.{members, overlaps, setBits}
 use Rattle.bits.proofs.Words.{same-below, lt-pow}
 use Rattle.session.specs.Limits.{maxNodes}
 use Rattle.pair_tables.specs.Tables.{marked}
 use Rattle.links.specs.Links.{linksTo}
 use Rattle.refinement.specs.Refining.{carried, whole, keptOf, Sound, Turned, patternOf, tabled, Refining, Settled}
-use Rattle.edge_indexes.specs.Indexes.{edgesFrom, endsAt, predecessors}
-use Rattle.worklist.specs.Waiting.{waits}
+use Rattle.edge_indexes.specs.Indexes.{edgesFrom, endsAt, predecessors, startsSize}
+use Rattle.worklist.specs.Waiting.{waits, waitingWords}
 
 -- ---- the edges from a node
 
@@ -231,7 +231,7 @@ module _ (nodes : ℕ) (links es : List ℕ) (sound : Sound nodes links es) wher
 
       -- the node w holds a state with a link to one that went
       shaken : ℕ → Bool
-      shaken w = anyBelow 32 (λ u. members (getD ts' w 0) u && linksTo links (turned .gone) u)
+      shaken w = anyBelow setBits (λ u. members (getD ts' w 0) u && linksTo links (turned .gone) u)
 
       -- where the word stays, none does
       unshaken : changed ≡ false → (w : ℕ) → shaken w ≡ false
@@ -239,10 +239,10 @@ module _ (nodes : ℕ) (links es : List ℕ) (sound : Sound nodes links es) wher
       unshaken c w =
           refuted (shaken w)
           (λ h.
-          let r = any-take 32 (λ u. members (getD ts' w 0) u && linksTo links (turned .gone) u) h in
+          let r = any-take setBits (λ u. members (getD ts' w 0) u && linksTo links (turned .gone) u) h in
           let u = r .0 in
           let touches = and-r (ltb u n) (overlaps (getD links u 0) (turned .gone)) (and-r (members (getD ts' w 0) u) (linksTo links (turned .gone) u) (r .2)) in
-          let i = any-take 32 (λ o. members (getD links u 0) o && members (turned .gone) o) touches in
+          let i = any-take setBits (λ o. members (getD links u 0) o && members (turned .gone) o) touches in
           let o = i .0 in
           let lost : (members (getD ts v 0) o && not (members (getD ts' v 0) o)) ≡ true =
           sym (went-at o) ∙ and-r (members (getD links u 0) o) (members (turned .gone) o) (i .2) in
@@ -268,9 +268,9 @@ module _ (nodes : ℕ) (links es : List ℕ) (sound : Sound nodes links es) wher
           let l : u < n = state-of p in
           let touches : linksTo links (turned .gone) u ≡ true =
           and-make (lt-ltb u n l)
-          (any-make 32 (λ i. members (getD links u 0) i && members (turned .gone) i) o (omega (arith, sound .few-states)) (and-make link lost)) in
+          (any-make setBits (λ i. members (getD links u 0) i && members (turned .gone) i) o (omega (arith, sound .few-states)) (and-make link lost)) in
           let called : shaken (p / n) ≡ true =
-          any-make 32 (λ x. members (getD ts' (p / n) 0) x && linksTo links (turned .gone) x) u (omega (arith, sound .few-states)) (and-make held touches) in
+          any-make setBits (λ x. members (getD ts' (p / n) 0) x && linksTo links (turned .gone) x) u (omega (arith, sound .few-states)) (and-make held touches) in
           clash (and-make (joins-predecessors (p / n) v (subst (λ (x : ℕ). joins maxNodes es (p / n) x ≡ true) e edge)) called) apart)
           (split (T ts' q)))
           (λ (e : q / n ≡ v → ⊥). or-r (S q) (left-away q e ∙ h))
@@ -328,7 +328,7 @@ module _ (nodes : ℕ) (links es : List ℕ) (sound : Sound nodes links es) wher
           )
 
       turn-less : v < nodes → waits ws v ≡ true
-          → 513 * count (nodes * n) (T ts') + count maxNodes (waits ws') < 513 * count (nodes * n) (T ts) + count maxNodes (waits ws)
+          → startsSize * count (nodes * n) (T ts') + count maxNodes (waits ws') < startsSize * count (nodes * n) (T ts) + count maxNodes (waits ws)
       unfolding changed shaken
       turn-less inside waiting =
           ⊎-elim
@@ -357,7 +357,7 @@ module _ (nodes : ℕ) (links es : List ℕ) (sound : Sound nodes links es) wher
     -- ---- the whole refinement, from the table ts₀ and the nodes ws₀
 
     module _ (ts₀ ws₀ : List ℕ) where
-      pub refining-start : (v : ℕ) → length ts₀ ≡ maxNodes → length ws₀ ≡ 16 → v ≡ first (waits ws₀) 0 maxNodes → Refining nodes links es ss ts₀ ws₀ ts₀ ws₀ v
+      pub refining-start : (v : ℕ) → length ts₀ ≡ maxNodes → length ws₀ ≡ waitingWords → v ≡ first (waits ws₀) 0 maxNodes → Refining nodes links es ss ts₀ ws₀ ts₀ ws₀ v
       refining-start v long waits-long lowest = record {
         long = long;
         waits-long = waits-long;
@@ -390,8 +390,8 @@ module _ (nodes : ℕ) (links es : List ℕ) (sound : Sound nodes links es) wher
               (split (eqb w v))
 
       pub refining-less : (ts ws : List ℕ) (v : ℕ) (ts' ws' : List ℕ) → Refining nodes links es ss ts₀ ws₀ ts ws v → v < nodes → Turned links es ss ts ws v ts' ws'
-          → 513 * count (nodes * length links) (tabled nodes links es ts') + count maxNodes (waits ws')
-          < 513 * count (nodes * length links) (tabled nodes links es ts) + count maxNodes (waits ws)
+          → startsSize * count (nodes * length links) (tabled nodes links es ts') + count maxNodes (waits ws')
+          < startsSize * count (nodes * length links) (tabled nodes links es ts) + count maxNodes (waits ws)
       refining-less ts ws v ts' ws' r inside turned =
           turn-less ts ws v ts' ws' turned inside
           (rw (r .lowest) (first-at (waits ws) 0 maxNodes (omega arith) (omega (arith, r .lowest, sound .few-nodes))))

@@ -13,28 +13,29 @@ use Rattle.simulation.specs.Sets.{Set, allBelow, minus}
 use Rattle.simulation.specs.Search.{found}
 use Rattle.simulation.proofs.Sets.{clash, split, same, refuted, and-make, and-l, and-r, not-make, not-take, implies-make, implies-take, any-make, any-take, all-make, all-take}
 use Rattle.simulation.proofs.Search.{found-here, found-on, found-end}
-use Rattle.bits.specs.Word.{members, overlaps}
+use Rattle.bits.specs.Word.{members, overlaps, setBits}
 use Rattle.bits.proofs.Words.{zero-members, same-members, or-members}
 use Rattle.pair_tables.specs.Tables.{marked}
 use Rattle.links.specs.Links.{linkedFrom, linksTo}
 use Rattle.refinement.specs.Refining.{carried, whole, keptOf, unmetOf}
 use Rattle.links.proofs.LinkSets.{links-none}
+use Rattle.session.specs.Limits.{maxNodes}
 
 module _ (es ss ts : List ℕ) where
   -- ---- a carrier of one link, among the edges from k on
 
   -- the edge k carries a link to o
   abbrev carrier : ℕ → Set
-  carrier o k = marked ss o (getD es k 0 % 512) || marked ts o (getD es k 0 % 512)
+  carrier o k = marked ss o (getD es k 0 % maxNodes) || marked ts o (getD es k 0 % maxNodes)
 
   abbrev pub carriedFrom : ℕ → ℕ → Bool
   carriedFrom o k = found (carrier o) k (length es)
 
   abbrev both : ℕ → ℕ
-  both k = bitOr (getD ss (getD es k 0 % 512) 0) (getD ts (getD es k 0 % 512) 0)
+  both k = bitOr (getD ss (getD es k 0 % maxNodes) 0) (getD ts (getD es k 0 % maxNodes) 0)
 
   seen : (o k : ℕ) → members (both k) o ≡ carrier o k
-  seen o k = ap (λ (X : Set). X o) (or-members (getD ss (getD es k 0 % 512) 0) (getD ts (getD es k 0 % 512) 0))
+  seen o k = ap (λ (X : Set). X o) (or-members (getD ss (getD es k 0 % maxNodes) 0) (getD ts (getD es k 0 % maxNodes) 0))
 
   pub carried-from : (o : ℕ) → carried es ss ts o ≡ carriedFrom o 0
   unfolding carried
@@ -68,7 +69,7 @@ module _ (set : ℕ) (es ss ts : List ℕ) where
 
   module _ (rest k : ℕ) (r : Searching rest k) where
     pub searching-more : k < length es → (rest' : ℕ)
-        → members rest' ≡ minus (members rest) (members (bitOr (getD ss (getD es k 0 % 512) 0) (getD ts (getD es k 0 % 512) 0)))
+        → members rest' ≡ minus (members rest) (members (bitOr (getD ss (getD es k 0 % maxNodes) 0) (getD ts (getD es k 0 % maxNodes) 0)))
         → Searching rest' (k + 1)
     searching-more l rest' e =
         record {
@@ -90,7 +91,7 @@ module _ (set : ℕ) (es ss ts : List ℕ) where
         }
       where
         here : ℕ
-        here = bitOr (getD ss (getD es k 0 % 512) 0) (getD ts (getD es k 0 % 512) 0)
+        here = bitOr (getD ss (getD es k 0 % maxNodes) 0) (getD ts (getD es k 0 % maxNodes) 0)
 
         at : (o : ℕ) → members rest' o ≡ (members rest o && not (members here o))
         at o = ap (λ (X : Set). X o) e
@@ -122,7 +123,7 @@ module _ (word : ℕ) (links es ss ts : List ℕ) (missing : ℕ) (lacks : membe
   n = length links
 
   -- a state of the word is whole where none of its links is missing
-  whole-missing : (u : ℕ) → u < n → members word u ≡ true → n ≤ 32 → whole n (getD links u 0) es ss ts ≡ not (overlaps (getD links u 0) missing)
+  whole-missing : (u : ℕ) → u < n → members word u ≡ true → n ≤ setBits → whole n (getD links u 0) es ss ts ≡ not (overlaps (getD links u 0) missing)
   unfolding whole
   whole-missing u l m few =
       same (whole n (getD links u 0) es ss ts) (not (overlaps (getD links u 0) missing))
@@ -130,7 +131,7 @@ module _ (word : ℕ) (links es ss ts : List ℕ) (missing : ℕ) (lacks : membe
       not-make
       (refuted (overlaps (getD links u 0) missing)
       (λ k.
-      let r = any-take 32 (λ o. members (getD links u 0) o && members missing o) k in
+      let r = any-take setBits (λ o. members (getD links u 0) o && members missing o) k in
       let o = r .0 in
       let link = and-l (members (getD links u 0) o) (members missing o) (r .2) in
       let due = linkedFrom links word o && ltb o n in
@@ -150,12 +151,12 @@ module _ (word : ℕ) (links es ss ts : List ℕ) (missing : ℕ) (lacks : membe
       let due : (linkedFrom links word o && ltb o n) ≡ true =
       and-make (any-make n (λ x. members word x && members (getD links x 0) o) u l (and-make m link)) (lt-ltb o n small) in
       clash
-      (any-make 32 (λ i. members (getD links u 0) i && members missing i) o (omega (arith, few, small))
+      (any-make setBits (λ i. members (getD links u 0) i && members missing i) o (omega (arith, few, small))
       (and-make link (ap (λ (X : Set). X o) lacks ∙ and-make due (not-make e))))
       (not-take (overlaps (getD links u 0) missing) h))
       (split (carried es ss ts o)))))
 
-  pub kept-without : n ≤ 32 → minus (members word) (linksTo links missing) ≡ keptOf word links es ss ts
+  pub kept-without : n ≤ setBits → minus (members word) (linksTo links missing) ≡ keptOf word links es ss ts
   kept-without few = fun-ext (λ u. ⊎-elim (λ (m : members word u ≡ true). rw m (there u m)) (λ (m : members word u ≡ false). rw m refl) (split (members word u)))
     where
       there : (u : ℕ) → members word u ≡ true
@@ -167,13 +168,13 @@ module _ (word : ℕ) (links es ss ts : List ℕ) (missing : ℕ) (lacks : membe
           (split (ltb u n))
 
   -- where none is missing the word stays
-  pub kept-whole : n ≤ 32 → missing ≡ 0 → members word ≡ keptOf word links es ss ts
+  pub kept-whole : n ≤ setBits → missing ≡ 0 → members word ≡ keptOf word links es ss ts
   kept-whole few e =
       fun-ext (λ u. sym (ap (λ (b : Bool). members word u && not b) (ap (λ (x : ℕ). linksTo links x u) e ∙ links-none links u) ∙ and-true (members word u)))
       ∙ kept-without few
 
   -- none is missing just where each state of the word is whole
-  pub whole-met : n ≤ 32 → eqb missing 0 ≡ allBelow (length links) (λ u. not (members word u) || whole (length links) (getD links u 0) es ss ts)
+  pub whole-met : n ≤ setBits → eqb missing 0 ≡ allBelow (length links) (λ u. not (members word u) || whole (length links) (getD links u 0) es ss ts)
   whole-met few = same (eqb missing 0) (allBelow n wholeAt) there back
     where
       wholeAt : Set
@@ -189,7 +190,7 @@ module _ (word : ℕ) (links es ss ts : List ℕ) (missing : ℕ) (lacks : membe
           ∙ not-make
           (refuted (overlaps (getD links u 0) missing)
           (λ k.
-          let r = any-take 32 (λ o. members (getD links u 0) o && members missing o) k in
+          let r = any-take setBits (λ o. members (getD links u 0) o && members missing o) k in
           clash (and-r (members (getD links u 0) (r .0)) (members missing (r .0)) (r .2))
           (ap (λ (w : ℕ). members w (r .0)) (eqb-true missing 0 e) ∙ zero-members (r .0))))))
 
@@ -209,7 +210,7 @@ module _ (word : ℕ) (links es ss ts : List ℕ) (missing : ℕ) (lacks : membe
           let in-word = and-l (members word u) (members (getD links u 0) o) (r .2) in
           let link = and-r (members word u) (members (getD links u 0) o) (r .2) in
           clash
-          (any-make 32 (λ i. members (getD links u 0) i && members missing i) o (omega (arith, few, small)) (and-make link m))
+          (any-make setBits (λ i. members (getD links u 0) i && members missing i) o (omega (arith, few, small)) (and-make link m))
           (not-take (overlaps (getD links u 0) missing)
           (sym (whole-missing u (r .1) in-word few)
           ∙ implies-take (members word u) (whole n (getD links u 0) es ss ts) (all-take n wholeAt h u (r .1)) in-word)))

@@ -9,9 +9,9 @@ use lib.ListN.{length, getD, set, length-set}
 use lib.Seq.{getD-set-same, getD-set-other}
 use Rattle.simulation.specs.Sets.{Set, minus, without, anyBelow}
 use Rattle.simulation.proofs.Sets.{clash, refuted, and-none, any-take}
-use Rattle.bits.specs.Word.{members, overlaps}
+use Rattle.bits.specs.Word.{members, overlaps, setBits}
 use Rattle.bits.proofs.Words.{zero-members}
-use Rattle.session.specs.Limits.{maxNodes}
+use Rattle.session.specs.Limits.{maxNodes, edgeNumbers}
 use Rattle.session.specs.Layout.{below}
 use Rattle.session.proofs.Tables.{below-make}
 use Rattle.links.specs.Links.{linksTo}
@@ -21,8 +21,8 @@ use Rattle.worklist.specs.Waiting.{waits}
 use Rattle.links.proofs.LinkSets.{links-none}
 
 -- edges between nodes are small numbers
-pub sound-below : (nodes : ℕ) (links es : List ℕ) → Sound nodes links es → below 262144 es ≡ true
-sound-below nodes links es s = below-make 262144 es (λ k l. omega (arith, s .starts k l, s .few-nodes))
+pub sound-below : (nodes : ℕ) (links es : List ℕ) → Sound nodes links es → below edgeNumbers es ≡ true
+sound-below nodes links es s = below-make edgeNumbers es (λ k l. omega (arith, s .starts k l, s .few-nodes))
 
 -- a sound list is sound for all the nodes there may be
 pub sound-wider : (nodes : ℕ) (links es : List ℕ) → Sound nodes links es → Sound maxNodes links es
@@ -56,7 +56,7 @@ module _ (links es ss ts ws : List ℕ) (v : ℕ) (inside : v < length ts) (ws�
             ∙ fun-ext
             (λ w.
             ap (λ (X : Set). X w || (predecessors es v w && overlaps (getD (set ts v left) w 0) shaken)) out
-            ∙ ap (λ (Y : Set). without (waits ws) v w || (predecessors es v w && anyBelow 32 (λ u. members (getD (set ts v left) w 0) u && Y u))) shakes);
+            ∙ ap (λ (Y : Set). without (waits ws) v w || (predecessors es v w && anyBelow setBits (λ u. members (getD (set ts v left) w 0) u && Y u))) shakes);
       }
 
   -- nothing was cleared
@@ -73,8 +73,8 @@ module _ (links es ss ts ws : List ℕ) (v : ℕ) (inside : v < length ts) (ws�
         (λ w.
         sym
         (ap (λ (b : Bool). without (waits ws) v w || b)
-        (ap (λ (X : Set). predecessors es v w && anyBelow 32 X) (fun-ext (λ u. and-none (members (getD ts w 0) u) (links-none links u)))
-        ∙ and-none (predecessors es v w) (any-none 32))
+        (ap (λ (X : Set). predecessors es v w && anyBelow setBits X) (fun-ext (λ u. and-none (members (getD ts w 0) u) (links-none links u)))
+        ∙ and-none (predecessors es v w) (any-none setBits))
         ∙ or-false (without (waits ws) v w)));
   }
     where

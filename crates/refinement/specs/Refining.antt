@@ -10,12 +10,12 @@ use Rattle.simulation.specs.Search.{first, found}
 use Rattle.simulation.specs.Ordered.{ascends, joins}
 use Rattle.simulation.specs.System.{supported, refined}
 use Rattle.simulation.specs.Pattern.{Pattern, paired, system, plain}
-use Rattle.bits.specs.Word.{members}
+use Rattle.bits.specs.Word.{members, setBits}
 use Rattle.session.specs.Limits.{maxStates, maxNodes, maxEdges}
 use Rattle.pair_tables.specs.Tables.{marked}
 use Rattle.links.specs.Links.{linkedFrom, linksTo}
 use Rattle.edge_indexes.specs.Indexes.{edgesFrom, predecessors}
-use Rattle.worklist.specs.Waiting.{waits}
+use Rattle.worklist.specs.Waiting.{waits, waitingWords}
 
 -- ---- support
 
@@ -55,7 +55,7 @@ pub record Turned (links es ss ts ws : List ℕ) (v : ℕ) (ts' ws' : List ℕ) 
   pub here : members (getD ts' v 0) ≡ keptOf (getD ts v 0) links (edgesFrom es v) ss ts
   pub gone : ℕ
   pub went : members gone ≡ minus (members (getD ts v 0)) (members (getD ts' v 0))
-  pub waiting : waits ws' ≡ (λ w. without (waits ws) v w || (predecessors es v w && anyBelow 32 (λ u. members (getD ts' w 0) u && linksTo links gone u)))
+  pub waiting : waits ws' ≡ (λ w. without (waits ws) v w || (predecessors es v w && anyBelow setBits (λ u. members (getD ts' w 0) u && linksTo links gone u)))
 
 -- links and edges as a pattern, and a table as a set of its pairs
 abbrev pub patternOf : ℕ → List ℕ → List ℕ → Pattern
@@ -68,7 +68,7 @@ tabled nodes links es ts = paired (patternOf nodes links es) (marked ts)
 -- what does not wait is supported, where it was so at first
 pub record Refining (nodes : ℕ) (links es ss ts₀ ws₀ ts ws : List ℕ) (v : ℕ) : Type 0 where
   pub long : length ts ≡ maxNodes
-  pub waits-long : length ws ≡ 16
+  pub waits-long : length ws ≡ waitingWords
   pub lowest : v ≡ first (waits ws) 0 maxNodes
   pub within : (u w : ℕ) → marked ts u w ≡ true → marked ts₀ u w ≡ true
   pub refines : refined (system (patternOf nodes links es)) (tabled nodes links es ss) (tabled nodes links es ts)

@@ -3,13 +3,14 @@ ghost use mathlib.Core.Path.{_≡_};
 ghost use mathlib.Core.Bool.{true, not, _&&_};
 ghost use Prim.Native.Nat.{ℕ, _<_, _≤_};
 ghost use lib.ListN.{length, getD};
-ghost use Rattle.bits.specs.Word.{members};
+ghost use Rattle.bits.specs.Word.{members, setBits};
 ghost use Rattle.simulation.specs.Ordered.{ascends};
 ghost use Rattle.session.specs.Limits.{maxEdges, maxNodes};
 ghost use Rattle.pair_tables.specs.Tables.{marked};
 ghost use Rattle.refinement.specs.Refining.{carried, keptOf, unmetOf, Sound, Turned, Refining, Settled};
 ghost use Rattle.edge_indexes.specs.Indexes.{edgesFrom, Started, Indexed};
 ghost use Rattle.links.specs.Links.{Callers};
+ghost use Rattle.worklist.specs.Waiting.{waitingWords};
 use edge_indexes::STARTS;
 use edge_indexes::edges_at;
 use edge_indexes::index;
@@ -52,7 +53,7 @@ pub fn missing(set: u32, edges: &[u32], settled: &[u32], tentative: &[u32]) -> u
 
 // The states to which the word has links, and to which no edge of a node leads.
 pub fn unmet(word: u32, links: &[u32], edges: &[u32], settled: &[u32], tentative: &[u32]) -> u32
-    requires { ⌜ (length (now links) ≤ 32) × (length (now settled) ≡ maxNodes) × (length (now tentative) ≡ maxNodes) ⌝ }
+    requires { ⌜ (length (now links) ≤ setBits) × (length (now settled) ≡ maxNodes) × (length (now tentative) ≡ maxNodes) ⌝ }
     ensures { λ r. ⌜ members r ≡ unmetOf word (now (links .entry)) (now (edges .entry)) (now (settled .entry)) (now (tentative .entry)) ⌝ }
 {
     let needed = linked(links, word) & bits::below(links.len() as u32);
@@ -61,7 +62,7 @@ pub fn unmet(word: u32, links: &[u32], edges: &[u32], settled: &[u32], tentative
 
 // The states of the word that keep their support at a node with these edges: those without a link that is not met.
 pub fn kept(word: u32, links: &[u32], edges: &[u32], settled: &[u32], tentative: &[u32]) -> u32
-    requires { ⌜ (length (now links) ≤ 32) × (length (now settled) ≡ maxNodes) × (length (now tentative) ≡ maxNodes) ⌝ }
+    requires { ⌜ (length (now links) ≤ setBits) × (length (now settled) ≡ maxNodes) × (length (now tentative) ≡ maxNodes) ⌝ }
     ensures { λ r. ⌜ members r ≡ keptOf word (now (links .entry)) (now (edges .entry)) (now (settled .entry)) (now (tentative .entry)) ⌝ }
 {
     let lacking = unmet(word, links, edges, settled, tentative);
@@ -83,7 +84,7 @@ pub fn left_at(
     tentative: &[u32],
     v: usize,
 ) -> u32
-    requires { ⌜ (length (now settled) ≡ maxNodes) × (length (now tentative) ≡ maxNodes) × (v < maxNodes) × (length (now links) ≤ 32) ⌝ }
+    requires { ⌜ (length (now settled) ≡ maxNodes) × (length (now tentative) ≡ maxNodes) × (v < maxNodes) × (length (now links) ≤ setBits) ⌝ }
     requires { ⌜ (ascends (now edges) ≡ true) × (length (now edges) ≤ maxEdges) × ((length (now firsts) ≡ 0 → ⊥) → Started (now edges) (now firsts)) ⌝ }
     ensures { λ r. ⌜ members r ≡ keptOf (getD (now (tentative .entry)) v 0) (now (links .entry)) (edgesFrom (now (edges .entry)) v) (now (settled .entry)) (now (tentative .entry)) ⌝ }
 {
@@ -104,7 +105,7 @@ pub fn turn(
     nexts: &[u32],
     v: usize,
 )
-    requires { ⌜ (length (now settled) ≡ maxNodes) × (length (now tentative) ≡ maxNodes) × (length (now waiting) ≡ 16) × (v < maxNodes) ⌝ }
+    requires { ⌜ (length (now settled) ≡ maxNodes) × (length (now tentative) ≡ maxNodes) × (length (now waiting) ≡ waitingWords) × (v < maxNodes) ⌝ }
     requires { ⌜ Sound maxNodes (now links) (now edges) × ((length (now firsts) ≡ 0 → ⊥) → Started (now edges) (now firsts)) × ((length (now heads) ≡ 0 → ⊥) → Indexed (now edges) (now heads) (now nexts)) × ((length (now callers) ≡ 0 → ⊥) → Callers (now links) (now callers)) ⌝ }
     ensures { λ r. ⌜ Turned (now (links .entry)) (now (edges .entry)) (now (settled .entry)) (now (tentative .entry)) (now (waiting .entry)) v (now (tentative .exit)) (now (waiting .exit)) ⌝ }
 {
@@ -135,7 +136,7 @@ pub fn refine(
     heads: &[u32],
     nexts: &[u32],
 ) -> usize
-    requires { ⌜ (length (now settled) ≡ maxNodes) × (length (now tentative) ≡ maxNodes) × (length (now waiting) ≡ 16) ⌝ }
+    requires { ⌜ (length (now settled) ≡ maxNodes) × (length (now tentative) ≡ maxNodes) × (length (now waiting) ≡ waitingWords) ⌝ }
     requires { ⌜ Sound nodes (now links) (now edges) × ((length (now firsts) ≡ 0 → ⊥) → Started (now edges) (now firsts)) × ((length (now heads) ≡ 0 → ⊥) → Indexed (now edges) (now heads) (now nexts)) × ((length (now callers) ≡ 0 → ⊥) → Callers (now links) (now callers)) ⌝ }
     ensures { λ r. ⌜ Refining nodes (now (links .entry)) (now (edges .entry)) (now (settled .entry)) (now (tentative .entry)) (now (waiting .entry)) (now (tentative .exit)) (now (waiting .exit)) r × ((length (now (heads .entry)) ≡ 0 → ⊥) → nodes ≤ r) ⌝ }
 {
@@ -175,7 +176,7 @@ pub fn refine_indexed(
     tentative: &mut [u32],
     waiting: &mut [u32],
 )
-    requires { ⌜ (length (now settled) ≡ maxNodes) × (length (now tentative) ≡ maxNodes) × (length (now waiting) ≡ 16) ⌝ }
+    requires { ⌜ (length (now settled) ≡ maxNodes) × (length (now tentative) ≡ maxNodes) × (length (now waiting) ≡ waitingWords) ⌝ }
     requires { ⌜ Sound nodes (now links) (now edges) × ((u v : ℕ) → marked (now tentative) u v ≡ true → v < nodes) ⌝ }
     ensures { λ r. ⌜ Settled nodes (now (links .entry)) (now (edges .entry)) (now (settled .entry)) (now (tentative .entry)) (now (waiting .entry)) (now (tentative .exit)) ⌝ }
 {
@@ -209,7 +210,7 @@ pub fn refine_few(
     tentative: &mut [u32],
     waiting: &mut [u32],
 )
-    requires { ⌜ (length (now settled) ≡ maxNodes) × (length (now tentative) ≡ maxNodes) × (length (now waiting) ≡ 16) ⌝ }
+    requires { ⌜ (length (now settled) ≡ maxNodes) × (length (now tentative) ≡ maxNodes) × (length (now waiting) ≡ waitingWords) ⌝ }
     requires { ⌜ Sound nodes (now links) (now edges) × ((u v : ℕ) → marked (now tentative) u v ≡ true → v < nodes) ⌝ }
     ensures { λ r. ⌜ Settled nodes (now (links .entry)) (now (edges .entry)) (now (settled .entry)) (now (tentative .entry)) (now (waiting .entry)) (now (tentative .exit)) ⌝ }
 {

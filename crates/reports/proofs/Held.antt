@@ -1,5 +1,5 @@
 -- What the report of a call reads from a session in layout: firing, and the change list.
-use Rattle.session.specs.Limits.{marksAt}
+use Rattle.session.specs.Limits.{marksAt, maxChanges, maxNodes}
 use Rattle.session.proofs.Tables.{part-from}
 use Prim.Native.Nat.{ℕ, _+_, _-_, _≤_}
 use native.Mathlib.Nat.{mul-le-mul-left}
@@ -66,7 +66,7 @@ module _ (xs : List ℕ) (h : inLayout xs ≡ true) where
   held-changes bs cs = rw (facts .counts .0, facts .counts .1)
 
   -- a room of 8,192 places holds any list
-  pub held-few : (bs cs : List ℕ) → length (tableChanges (getD xs 0 0) (getD xs 1 0) bs cs) ≤ 8192
+  pub held-few : (bs cs : List ℕ) → length (tableChanges (getD xs 0 0) (getD xs 1 0) bs cs) ≤ maxChanges
   held-few bs cs =
       let b = layout-limits xs h in
       omega (
@@ -85,6 +85,6 @@ module _ (xs : List ℕ) (h : inLayout xs ≡ true) where
       let links = t .links in
       ap
       (λ (ws : List ℕ). allBelow (length links) (λ u. not (reached (linkedBy links) u) || anyBelow (length ws) (λ v. members (getD ws v 0) u)))
-      (part-from xs marksAt (getD xs 1 0) ∙ sym (take-take (getD xs 1 0) 512 (drop marksAt xs) (layout-limits xs h .few-nodes)))
-      ∙ held-fires (take 512 (drop marksAt xs)) (omega (arith, length-take 512 (drop marksAt xs), length-drop marksAt xs, layout-limits xs h))
+      (part-from xs marksAt (getD xs 1 0) ∙ sym (take-take (getD xs 1 0) maxNodes (drop marksAt xs) (layout-limits xs h .few-nodes)))
+      ∙ held-fires (take maxNodes (drop marksAt xs)) (omega (arith, length-take maxNodes (drop marksAt xs), length-drop marksAt xs, layout-limits xs h))
       ∙ ap (fires t g) (held-marks xs h)

@@ -6,7 +6,7 @@ use mathlib.Core.Bool.{Bool, true}
 use mathlib.Core.List.{List, _++_}
 use lib.IntN.{ℤ}
 use lib.ListN.{length, getD, take, drop}
-use Rattle.session.specs.Limits.{marksAt}
+use Rattle.session.specs.Limits.{marksAt, maxNodes}
 use Rattle.session.specs.Trigger.{Marks}
 use Rattle.session.specs.Layout.{triggerOf, graphOf, marksOf, inLayout}
 use Rattle.pair_tables.specs.Tables.{marked}
@@ -29,13 +29,13 @@ pub tells : (xs : List ℕ) (trials n : ℕ) (f : Firing) → firing f ≡ fires
 tells xs trials n f fired = ap (λ (b : Bool). accepted record { fires = b; trials = trials; changes = n }) fired
 
 pub reported : (xs : List ℕ) → inLayout xs ≡ true → (bs : List ℕ) (trials n : ℕ) (room room' : List ℤ) (r : Answer)
-    → Placed room 0 (tableChanges (getD xs 0 0) (getD xs 1 0) bs (take 512 (drop marksAt xs))) room' n
+    → Placed room 0 (tableChanges (getD xs 0 0) (getD xs 1 0) bs (take maxNodes (drop marksAt xs))) room' n
     → Tells xs trials n r
     → Reported (triggerOf xs) (graphOf xs) (marksOf xs) trials (changes (triggerOf xs) (graphOf xs) (marked bs) (marksOf xs)) room r room'
 reported xs h bs trials n room room' r placed is-told =
     let list : List ℤ = changes (triggerOf xs) (graphOf xs) (marked bs) (marksOf xs) in
-    let is : tableChanges (getD xs 0 0) (getD xs 1 0) bs (take 512 (drop marksAt xs)) ≡ list =
-    held-changes xs h bs (take 512 (drop marksAt xs)) ∙ ap (λ (m : Marks). changes (triggerOf xs) (graphOf xs) (marked bs) m) (held-marks xs h) in
+    let is : tableChanges (getD xs 0 0) (getD xs 1 0) bs (take maxNodes (drop marksAt xs)) ≡ list =
+    held-changes xs h bs (take maxNodes (drop marksAt xs)) ∙ ap (λ (m : Marks). changes (triggerOf xs) (graphOf xs) (marked bs) m) (held-marks xs h) in
     let here : Placed room 0 list room' n = rw is at placed in
     record {
       answer = is-told ∙ ap (λ (k : ℕ). accepted record { fires = fires (triggerOf xs) (graphOf xs) (marksOf xs); trials = trials; changes = k }) (here .past ∙ zero-add (length list));

@@ -6,7 +6,7 @@ ghost use Rattle.session.specs.Limits.{fixedSize, maxChanges, maxNodes};
 ghost use Prim.Native.Nat.{_<_, _≤_};
 ghost use lib.ListN.{length, getD};
 ghost use Rattle.simulation.specs.Sets.{allBelow, anyBelow};
-ghost use Rattle.bits.specs.Word.{members};
+ghost use Rattle.bits.specs.Word.{members, setBits};
 ghost use Rattle.session.specs.Reached.{reached, linkedBy};
 ghost use Rattle.session.specs.Layout.{triggerOf, graphOf, inLayout, marksOf};
 ghost use Rattle.pair_tables.specs.Tables.{marked};
@@ -30,7 +30,7 @@ pub fn too_short(memory: usize, room: usize) -> bool
 
 // Whether each state that these links reach from State One is marked in some word. No link is followed where every state is marked, or State One is not.
 pub fn reached_marked(words: &[u32], links: &[u32]) -> bool
-    requires { ⌜ (0 < length (now links)) × (length (now links) ≤ 32) ⌝ }
+    requires { ⌜ (0 < length (now links)) × (length (now links) ≤ setBits) ⌝ }
     ensures { λ r. ⌜ r ≡ allBelow (length (now (links .entry))) (λ u. not (reached (linkedBy (now (links .entry))) u) || anyBelow (length (now (words .entry))) (λ v. members (getD (now (words .entry)) v 0) u)) ⌝ }
 {
     let marked = bits::gathered(words);

@@ -13,27 +13,28 @@ use Rattle.simulation.specs.Ordered.{ascends}
 use Rattle.simulation.proofs.Sets.{clash, split, refuted, and-l, all-make, all-take, all-both}
 use Rattle.simulation.proofs.Ordered.{rising-take, ascending}
 use Rattle.session.specs.Tests.{allNamed}
+use Rattle.session.specs.Limits.{maxNodes}
 
 module _ (nodes : ℕ) (es : List ℕ) where
   abbrev starting : Set
-  starting k = ltb (getD es k 0 / 512) nodes
+  starting k = ltb (getD es k 0 / maxNodes) nodes
 
   abbrev pub ending : Set
-  ending k = ltb (getD es k 0 % 512) nodes
+  ending k = ltb (getD es k 0 % maxNodes) nodes
 
   pub none-named : length es ≡ 0 → true ≡ allNamed nodes es
   unfolding allNamed
   none-named e = sym (all-make (length es) (λ k. starting k && ending k) (λ k l. absurd (omega (arith, e, l))))
 
-  pub start-fails : (k : ℕ) → k < length es → nodes ≤ getD es k 0 / 512 → false ≡ allNamed nodes es
+  pub start-fails : (k : ℕ) → k < length es → nodes ≤ getD es k 0 / maxNodes → false ≡ allNamed nodes es
   unfolding allNamed
   start-fails k l high =
       sym
       (refuted (allNamed nodes es)
-      (λ h. clash (and-l (starting k) (ending k) (all-take (length es) (λ j. starting j && ending j) h k l)) (le-ltb (getD es k 0 / 512) nodes high)))
+      (λ h. clash (and-l (starting k) (ending k) (all-take (length es) (λ j. starting j && ending j) h k l)) (le-ltb (getD es k 0 / maxNodes) nodes high)))
 
   -- where the last start is a node, the ends decide
-  pub ends-decide : ascends es ≡ true → getD es (length es - 1) 0 / 512 < nodes → allBelow (length es) ending ≡ allNamed nodes es
+  pub ends-decide : ascends es ≡ true → getD es (length es - 1) 0 / maxNodes < nodes → allBelow (length es) ending ≡ allNamed nodes es
   unfolding allNamed
   ends-decide up low =
       ap (λ (b : Bool). b && allBelow (length es) ending) (sym starts)
@@ -50,4 +51,4 @@ module _ (nodes : ℕ) (es : List ℕ) where
           (split (eqb k (length es - 1)))
 
       starts : allBelow (length es) starting ≡ true
-      starts = all-make (length es) starting (λ k l. lt-ltb (getD es k 0 / 512) nodes (omega (arith, before-last k l, low)))
+      starts = all-make (length es) starting (λ k l. lt-ltb (getD es k 0 / maxNodes) nodes (omega (arith, before-last k l, low)))

@@ -5,7 +5,7 @@ ghost use Prim.Native.Nat.{_-_, _^_, _≤_, _<_};
 ghost use lib.Dec.{eqb};
 ghost use lib.ListN.{length, getD};
 ghost use Rattle.simulation.specs.Ordered.{ascends};
-ghost use Rattle.bits.specs.Word.{within, members};
+ghost use Rattle.bits.specs.Word.{within, members, halfBits, setBits};
 ghost use Rattle.session.specs.Layout.{below};
 ghost use Rattle.session.specs.Tests.{fits, allNamed, sparse};
 ghost use lib.Bits.{bitAnd};
@@ -41,15 +41,15 @@ pub fn all_zero(words: &[u32]) -> bool
 
 // Whether the used words' union has k bits, and that of the others none.
 pub fn unions_fit(inside: u32, unused: u32, k: u32) -> bool
-    requires { ⌜ k ≤ 32 ⌝ }
-    ensures { λ r. ⌜ r ≡ (within 32 inside (2 ^ k - 1) && eqb unused 0) ⌝ }
+    requires { ⌜ k ≤ setBits ⌝ }
+    ensures { λ r. ⌜ r ≡ (within setBits inside (2 ^ k - 1) && eqb unused 0) ⌝ }
 {
     bits::subset(inside, bits::below(k)) && unused == 0
 }
 
 // Whether a section has words below 2 to the k in its used places, and zeros in the others.
 pub fn section_fits(place: &[u32], used: usize, k: u32) -> bool
-    requires { ⌜ (used ≤ length (now place)) × (k ≤ 32) ⌝ }
+    requires { ⌜ (used ≤ length (now place)) × (k ≤ setBits) ⌝ }
     ensures { λ r. ⌜ r ≡ fits k used (now (place .entry)) ⌝ }
 {
     let inside = bits::gathered(&place[..used]);
@@ -100,7 +100,7 @@ pub fn all_named(edges: &[u32], nodes: u32) -> bool
 pub fn strays_turned(samples: &[u16], marks: &[u16], turn: u16, mask: u16, value: u16) -> u16
     requires { ⌜ (length (now samples) ≡ length (now marks)) × (mask < 2 ^ wordBits) ⌝ }
     requires { ⌜ bitAnd value mask ≡ value ⌝ }
-    ensures { λ r. ⌜ ((b : Bool) → turn ≡ cond b (2 ^ 16 - 1) 0 → members r ≡ (λ u. anyBelow (length (now (marks .entry))) (λ v. members (getD (now (marks .entry)) v 0) u && not (matches wordBits b mask value (getD (now (samples .entry)) v 0))))) ⌝ }
+    ensures { λ r. ⌜ ((b : Bool) → turn ≡ cond b (2 ^ halfBits - 1) 0 → members r ≡ (λ u. anyBelow (length (now (marks .entry))) (λ v. members (getD (now (marks .entry)) v 0) u && not (matches wordBits b mask value (getD (now (samples .entry)) v 0))))) ⌝ }
 {
     let mut all: u16 = 0;
     let mut v = 0;
@@ -133,7 +133,7 @@ pub fn all_sparse(
     marks: &[u16],
     used: u32,
 ) -> bool
-    requires { ⌜ (length (now samples) ≡ length (now marks)) × (length (now values) ≡ length (now masks)) × (length (now masks) ≤ 32) ⌝ }
+    requires { ⌜ (length (now samples) ≡ length (now marks)) × (length (now values) ≡ length (now masks)) × (length (now masks) ≤ setBits) ⌝ }
     requires { ⌜ below (2 ^ wordBits) (now masks) ≡ true ⌝ }
     requires { ⌜ members used ≡ (λ u. anyBelow (length (now marks)) (λ v. members (getD (now marks) v 0) u)) ⌝ }
     ensures { λ r. ⌜ r ≡ allBelow (length (now (masks .entry))) (λ u. sparse (now (samples .entry)) (now (marks .entry)) (matches wordBits (members turned u) (getD (now (masks .entry)) u 0) (getD (now (values .entry)) u 0)) u) ⌝ }
@@ -164,7 +164,7 @@ pub fn all_admitted(
     marks: &[u32],
     used: u32,
 ) -> bool
-    requires { ⌜ (length (now samples) ≡ length (now marks)) × (length (now values) ≡ length (now masks)) × (length (now masks) ≤ 32) ⌝ }
+    requires { ⌜ (length (now samples) ≡ length (now marks)) × (length (now values) ≡ length (now masks)) × (length (now masks) ≤ setBits) ⌝ }
     requires { ⌜ below (2 ^ wordBits) (now masks) ≡ true ⌝ }
     requires { ⌜ (below (2 ^ wordBits) (now samples) ≡ true) × (below (2 ^ wordBits) (now marks) ≡ true) × (length (now marks) ≤ maxNodes) ⌝ }
     requires { ⌜ members used ≡ (λ u. anyBelow (length (now marks)) (λ v. members (getD (now marks) v 0) u)) ⌝ }

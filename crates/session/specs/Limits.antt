@@ -14,6 +14,10 @@ maxEdges = 2048
 abbrev pub wordBits : ℕ
 wordBits = 16
 
+-- the numbers of edges are below this
+abbrev pub edgeNumbers : ℕ
+edgeNumbers = maxNodes * maxNodes
+
 -- rule 3: "the change room has fewer than 8,192 places"
 abbrev pub maxChanges : ℕ
 maxChanges = maxNodes * maxStates

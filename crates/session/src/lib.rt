@@ -7,24 +7,24 @@ pub const MAX_NODES: usize = 512;
 
 pub const MAX_EDGES: usize = 2048;
 
-pub const EDGE_BASE: u32 = 512;
+pub const EDGE_BASE: u32 = MAX_NODES as u32;
 
 pub const WORD_BITS: u32 = 16;
 
-pub const MAX_CHANGES: usize = 8192;
+pub const MAX_CHANGES: usize = MAX_NODES * MAX_STATES;
 
 pub const INVERTED_AT: usize = 3;
 
-pub const MASKS_AT: usize = 4;
+pub const MASKS_AT: usize = INVERTED_AT + 1;
 
-pub const VALUES_AT: usize = 20;
+pub const VALUES_AT: usize = MASKS_AT + MAX_STATES;
 
-pub const LINKS_AT: usize = 36;
+pub const LINKS_AT: usize = VALUES_AT + MAX_STATES;
 
-pub const SAMPLES_AT: usize = 52;
+pub const SAMPLES_AT: usize = LINKS_AT + MAX_STATES;
 
-pub const EDGES_AT: usize = 564;
+pub const EDGES_AT: usize = SAMPLES_AT + MAX_NODES;
 
-pub const MARKS_AT: usize = 2612;
+pub const MARKS_AT: usize = EDGES_AT + MAX_EDGES;
 
-pub const FIXED_SIZE: usize = 3124;
+pub const FIXED_SIZE: usize = MARKS_AT + MAX_NODES;

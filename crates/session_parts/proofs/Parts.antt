@@ -13,7 +13,7 @@ use Rattle.simulation.proofs.Sets.{same, refuted, and-make, and-r}
 use Rattle.simulation.proofs.Search.{lt-or-le}
 use Rattle.bits.specs.Word.{members}
 use Rattle.bits.proofs.Words.{word-members}
-use Rattle.session.specs.Limits.{maxStates, marksAt, fixedSize}
+use Rattle.session.specs.Limits.{maxStates, marksAt, fixedSize, maxNodes}
 use Rattle.session.specs.Trigger.{Trigger, Graph, states, nodes}
 use Rattle.session.specs.Layout.{markWord, triggerOf, graphOf, marksOf, inLayout}
 use Rattle.session.proofs.Decoded.{LayoutFacts, layout-facts, layout-limits, layout-whole}
@@ -36,28 +36,28 @@ module _ (xs : List ℕ) (h : inLayout xs ≡ true) where
   abbrev g : Graph
   g = graphOf xs
 
-  mark-is : (u v : ℕ) → v < 512 → members (getD xs (marksAt + v) 0) u ≡ (ltb u (states t) && (ltb v (nodes g) && marksOf xs u v))
+  mark-is : (u v : ℕ) → v < maxNodes → members (getD xs (marksAt + v) 0) u ≡ (ltb u (states t) && (ltb v (nodes g) && marksOf xs u v))
   unfolding markWord
   mark-is u v l =
       ap (λ (ys : List ℕ). members (getD ys (marksAt + v) 0) u) (layout-whole xs h)
       ∙ ap (λ (w : ℕ). members w u) (mark-word t g (marksOf xs) (drop fixedSize xs) v l)
       ∙ word-members (states t) (λ u. ltb v (nodes g) && marksOf xs u v) u
 
-  pub marks-long : length (take 512 (drop marksAt xs)) ≡ 512
-  marks-long = length-take 512 (drop marksAt xs) ∙ omega (arith, length-drop marksAt xs, layout-limits xs h)
+  pub marks-long : length (take maxNodes (drop marksAt xs)) ≡ maxNodes
+  marks-long = length-take maxNodes (drop marksAt xs) ∙ omega (arith, length-drop marksAt xs, layout-limits xs h)
 
-  pub held-marks : marked (take 512 (drop marksAt xs)) ≡ marksOf xs
-  held-marks = fun-ext (λ u. fun-ext (λ v. ⊎-elim (near u v) (far u v) (lt-or-le v 512)))
+  pub held-marks : marked (take maxNodes (drop marksAt xs)) ≡ marksOf xs
+  held-marks = fun-ext (λ u. fun-ext (λ v. ⊎-elim (near u v) (far u v) (lt-or-le v maxNodes)))
     where
-      near : (u v : ℕ) → v < 512 → marked (take 512 (drop marksAt xs)) u v ≡ marksOf xs u v
+      near : (u v : ℕ) → v < maxNodes → marked (take maxNodes (drop marksAt xs)) u v ≡ marksOf xs u v
       near u v l =
-          ap (λ (w : ℕ). members w u) (getD-take 512 (drop marksAt xs) v 0 l ∙ getD-drop marksAt xs v 0)
+          ap (λ (w : ℕ). members w u) (getD-take maxNodes (drop marksAt xs) v 0 l ∙ getD-drop marksAt xs v 0)
           ∙ mark-is u v l
           ∙ same (ltb u (states t) && (ltb v (nodes g) && marksOf xs u v)) (marksOf xs u v)
           (λ e. and-r (ltb v (nodes g)) (marksOf xs u v) (and-r (ltb u (states t)) (ltb v (nodes g) && marksOf xs u v) e))
           (λ e. let i = facts .inside u v e in and-make (lt-ltb u (states t) (i .0)) (and-make (lt-ltb v (nodes g) (i .1)) e))
 
-      far : (u v : ℕ) → 512 ≤ v → marked (take 512 (drop marksAt xs)) u v ≡ marksOf xs u v
+      far : (u v : ℕ) → maxNodes ≤ v → marked (take maxNodes (drop marksAt xs)) u v ≡ marksOf xs u v
       far u v l =
-          unmarked (take 512 (drop marksAt xs)) u v (omega (arith, length-take 512 (drop marksAt xs)))
+          unmarked (take maxNodes (drop marksAt xs)) u v (omega (arith, length-take maxNodes (drop marksAt xs)))
           ∙ sym (refuted (marksOf xs u v) (λ e. absurd (omega (arith, facts .inside u v e .1, facts .graph .few))))

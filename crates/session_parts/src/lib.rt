@@ -67,7 +67,7 @@ pub fn edges_of(session: &[u32]) -> &[u32]
     part_of(session, session::EDGES_AT, session[2] as usize)
 }
 
-// The mark words, a word for each of 512 nodes.
+// The mark words, a word for each node.
 pub fn marks_of(session: &[u32]) -> &[u32]
     requires { ⌜ inLayout (now session) ≡ true ⌝ }
     ensures { λ r. ⌜ now r ≡ take maxNodes (drop marksAt (now (session .entry))) ⌝ }

@@ -16,7 +16,7 @@ use Rattle.simulation.proofs.System.{closure-seed, closure-least}
 use Rattle.simulation.proofs.Pattern.{state-inside, meets-take}
 use Rattle.simulation.proofs.Ordered.{elem-index}
 use Rattle.simulation.proofs.Edges.{elem-joins}
-use Rattle.bits.specs.Word.{members, overlaps}
+use Rattle.bits.specs.Word.{members, overlaps, setBits}
 use Rattle.session.specs.Limits.{maxNodes, marksAt}
 use Rattle.session.specs.Trigger.{Trigger, Graph, Marks, states, nodes, linked, admits, edge, pattern}
 use Rattle.session.specs.Layout.{triggerOf, graphOf, marksOf, inLayout}
@@ -47,7 +47,7 @@ module _ (xs : List ℕ) (h : inLayout xs ≡ true) where
 
   pub fresh-met : (ms : List ℕ) → ms ≡ take maxNodes (drop marksAt xs) → (word v able new : ℕ) → members able ≡ admittedAt xs v
       → members new ≡ minus (members able) (members (getD ms v 0)) → overlaps word new ≡ freshAmong xs word v
-  fresh-met ms ms-is word v able new able-is new-is = ap (λ (X : Set). anyBelow 32 (λ u. members word u && X u)) (fun-ext at)
+  fresh-met ms ms-is word v able new able-is new-is = ap (λ (X : Set). anyBelow setBits (λ u. members word u && X u)) (fun-ext at)
     where
       at : (u : ℕ) → members new u ≡ (ltb u (states (triggerOf xs)) && fresh (triggerOf xs) (graphOf xs) (marksOf xs) u v)
       at u =
@@ -97,7 +97,7 @@ module _ (xs : List ℕ) (h : inLayout xs ≡ true) where
 
   module _ (a b seeds able : ℕ) (near : a < nodes (graphOf xs)) (seeds-is : members seeds ≡ seedsOf xs a b)
       (links : List ℕ) (links-is : links ≡ triggerOf xs .links) (able-is : members able ≡ linksTo links seeds) (alone : aloneAt xs a able ≡ true)
-      (zs : List ℕ) (long : length zs ≡ 512) (empty : (v : ℕ) → getD zs v 0 ≡ 0) where
+      (zs : List ℕ) (long : length zs ≡ maxNodes) (empty : (v : ℕ) → getD zs v 0 ≡ 0) where
     abbrev s : System
     s = system (pattern (triggerOf xs) (graphOf xs))
 
@@ -157,10 +157,10 @@ module _ (xs : List ℕ) (h : inLayout xs ≡ true) where
         let in-able : members able u ≡ true =
         ap (λ (X : Set). X u) able-is
         ∙ and-make (lt-ltb u (length links) (rw links-is (omega (arith, l, facts .trigger .links))))
-        (any-make 32 (λ x. members (getD links u 0) x && members seeds x) o (omega (arith, k, facts .trigger .few))
+        (any-make setBits (λ x. members (getD links u 0) x && members seeds x) o (omega (arith, k, facts .trigger .few))
         (and-make (ap (λ (ls : List ℕ). members (getD ls u 0) o) links-is ∙ d) sd)) in
         clash
-        (any-make 32 (λ x. members able x && (ltb x n && fresh t g (marksOf xs) x (getD es (i .0) 0 / maxNodes))) u (omega (arith, l, facts .trigger .few))
+        (any-make setBits (λ x. members able x && (ltb x n && fresh t g (marksOf xs) x (getD es (i .0) 0 / maxNodes))) u (omega (arith, l, facts .trigger .few))
         (and-make in-able (and-make (lt-ltb u n l) (subst (λ (x : ℕ). fresh t g (marksOf xs) u x ≡ true) (sym at-start) f))))
         free
 

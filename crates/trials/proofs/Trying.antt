@@ -16,7 +16,7 @@ use Rattle.simulation.specs.Pattern.{Pattern, pair, paired, system}
 use Rattle.simulation.proofs.Sets.{split, same, and-make, and-l, and-r, or-r, any-make, any-take}
 use Rattle.simulation.proofs.System.{extensional, closure-seed, closure-step, closure-least}
 use Rattle.simulation.proofs.Pattern.{pair-inside, paired-pair, node-inside, state-inside}
-use Rattle.bits.specs.Word.{members}
+use Rattle.bits.specs.Word.{members, setBits}
 use Rattle.bits.proofs.Words.{zero-members, and-members}
 use Rattle.session.specs.Limits.{maxNodes, marksAt}
 use Rattle.session.specs.Trigger.{Trigger, Graph, Marks, states, nodes, linked, admits, pattern}
@@ -92,11 +92,11 @@ module _ (xs : List ℕ) (h : inLayout xs ≡ true) where
         ap (λ (X : Set). X u) new-is
         ∙ ap₂ (λ (x : Bool) (m : Marks). x && not (m u a)) (start-admits u) (ap marked ms-is ∙ held-marks xs h)
 
-    able-links : (u : ℕ) → members able u ≡ (ltb u (length links) && anyBelow 32 (λ o. members (getD links u 0) o && members at-end o))
+    able-links : (u : ℕ) → members able u ≡ (ltb u (length links) && anyBelow setBits (λ o. members (getD links u 0) o && members at-end o))
     able-links u = ap (λ (X : Set). X u) able-is
 
     abbrev reach : ℕ → Bool
-    reach u = anyBelow 32 (λ o. members (getD links u 0) o && members at-end o)
+    reach u = anyBelow setBits (λ o. members (getD links u 0) o && members at-end o)
 
     there : (u : ℕ) → members (bitAnd able new) u ≡ true → seedsOf xs a b u ≡ true
     unfolding seedsOf linked
@@ -105,7 +105,7 @@ module _ (xs : List ℕ) (h : inLayout xs ≡ true) where
         let f = sym (new-fresh u) ∙ and-r (members able u) (members new u) both in
         let adm = and-l (ltb u n && admits t g u a) (not (marksOf xs u a)) f in
         let l = sym (able-links u) ∙ and-l (members able u) (members new u) both in
-        let w = any-take 32 (λ o. members (getD links u 0) o && members at-end o) (and-r (ltb u (length links)) (reach u) l) in
+        let w = any-take setBits (λ o. members (getD links u 0) o && members at-end o) (and-r (ltb u (length links)) (reach u) l) in
         let o = w .0 in
         let goes = and-l (members (getD links u 0) o) (members at-end o) (w .2) in
         let fits = sym (end-admits o) ∙ and-r (members (getD links u 0) o) (members at-end o) (w .2) in
@@ -128,7 +128,7 @@ module _ (xs : List ℕ) (h : inLayout xs ≡ true) where
         ∙ and-make
         (able-links u
         ∙ and-make (ap (λ (ls : List ℕ). ltb u (length ls)) links-is ∙ ap (ltb u) (facts .trigger .links) ∙ state)
-        (any-make 32 (λ o. members (getD links u 0) o && members at-end o) o (omega (arith, w .1, facts .trigger .few))
+        (any-make setBits (λ o. members (getD links u 0) o && members at-end o) o (omega (arith, w .1, facts .trigger .few))
         (and-make (ap (λ (ls : List ℕ). members (getD ls u 0) o) links-is ∙ and-l (linked t u o) (admits t g o b) (w .2))
         (end-admits o ∙ and-make (lt-ltb o n (w .1)) (and-r (linked t u o) (admits t g o b) (w .2))))))
         (new-fresh u
@@ -139,7 +139,7 @@ module _ (xs : List ℕ) (h : inLayout xs ≡ true) where
 
   -- ---- a table with the seeds at one node
 
-  module _ (a b seeds : ℕ) (near : a < nodes (graphOf xs)) (seeds-is : members seeds ≡ seedsOf xs a b) (zs : List ℕ) (long : length zs ≡ 512)
+  module _ (a b seeds : ℕ) (near : a < nodes (graphOf xs)) (seeds-is : members seeds ≡ seedsOf xs a b) (zs : List ℕ) (long : length zs ≡ maxNodes)
       (empty : (v : ℕ) → getD zs v 0 ≡ 0) where
     pub seeded : (u v : ℕ) → marked (set zs a seeds) u v ≡ (eqb v a && seedsOf xs a b u)
     seeded u v =

@@ -4,10 +4,10 @@ ghost use mathlib.Core.Bool.{true};
 ghost use Prim.Native.Nat.{ℕ, _<_, _≤_};
 ghost use lib.ListN.{length, getD, take};
 ghost use Rattle.bits.specs.Word.{members};
-ghost use Rattle.session.specs.Limits.{maxNodes, maxEdges};
+ghost use Rattle.session.specs.Limits.{maxNodes, maxEdges, edgeNumbers};
 ghost use Rattle.session.specs.Trigger.{nodes, pattern};
 ghost use Rattle.session.specs.Layout.{triggerOf, graphOf, marksOf, inLayout, below};
-ghost use Rattle.edge_indexes.specs.Indexes.{Indexed, Started};
+ghost use Rattle.edge_indexes.specs.Indexes.{Indexed, Started, startsSize};
 ghost use Rattle.promises.specs.Standing.{trialSet, pairsOf};
 ghost use Rattle.editing.specs.Steps.{Holds, freshPairs, seedsOf, freshAmong, aloneAt, markedPairs};
 ghost use Rattle.simulation.specs.System.{refined};
@@ -123,9 +123,9 @@ pub const FEW: u32 = 32;
 
 // Builds the index of first edges, in a table that is zero, where there are more than a few trials; how many places it has.
 pub fn starts_for(trials: u32, edges: &[u32], firsts: &mut [u32]) -> usize
-    requires { ⌜ (length (now edges) ≤ maxEdges) × (ascends (now edges) ≡ true) × (below 262144 (now edges) ≡ true) × (length (now firsts) ≡ 513) ⌝ }
+    requires { ⌜ (length (now edges) ≤ maxEdges) × (ascends (now edges) ≡ true) × (below edgeNumbers (now edges) ≡ true) × (length (now firsts) ≡ startsSize) ⌝ }
     requires { ⌜ ((v : ℕ) → getD (now firsts) v 0 ≡ 0) ⌝ }
-    ensures { λ r. ⌜ (r ≤ 513) × ((r ≡ 0 → ⊥) → Started (now (edges .entry)) (take r (now (firsts .exit)))) ⌝ }
+    ensures { λ r. ⌜ (r ≤ startsSize) × ((r ≡ 0 → ⊥) → Started (now (edges .entry)) (take r (now (firsts .exit)))) ⌝ }
 {
     if trials <= FEW {
         return 0;

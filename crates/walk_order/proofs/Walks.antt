@@ -21,6 +21,7 @@ use Rattle.listing.specs.Order.{fold, visit, order}
 use Rattle.walk_order.specs.Walks.{WalkOf, Counted, unvisited, Written, Ready, Visited, rest}
 use Rattle.walk_order.specs.declared.Walk.{Walk}
 use Rattle.listing.proofs.Orders.{along, follow, numbers, visit-old, visit-new}
+use Rattle.session.specs.Limits.{maxStates}
 
 -- ---- one state more
 
@@ -36,13 +37,13 @@ unfolding elem
 elem-snoc x xs = fun-ext (λ u. elem-append u xs (x ∷ []) ∙ ap (λ (b : Bool). elem u xs || b) (or-false (eqb u x)))
 
 -- what the walk holds with the state written
-pub written-holds : (state v : ℕ) (w : Walk) (xs : List ℕ) → members v ≡ also (members (w .visited)) state → w .len < 16 → WalkOf xs w
+pub written-holds : (state v : ℕ) (w : Walk) (xs : List ℕ) → members v ≡ also (members (w .visited)) state → w .len < maxStates → WalkOf xs w
     → WalkOf (xs ++ (state ∷ [])) (record { visited = v; states = set (w .states) (w .len) (state + 1); len = w .len + 1 })
 written-holds state v w xs e room h =
     let k = length-map xs (λ u. u + 1) in
     record {
       seen = e ∙ ap (λ (X : Set). also X state) (h .seen) ∙ sym (elem-snoc state xs);
-      numbers = rw (h .numbers, h .long, map-append, ← k) (section-snoc 16 (state + 1) (numbers xs) (omega arith));
+      numbers = rw (h .numbers, h .long, map-append, ← k) (section-snoc maxStates (state + 1) (numbers xs) (omega arith));
       long = omega (arith, length-append xs (state ∷ []));
     }
 
@@ -173,13 +174,13 @@ module _ (n : ℕ) (w₀ w : Walk) (i : ℕ) (m : i < n) (g : Following n w₀ w
 
 -- nothing is written
 abbrev pub start : Walk
-start = record { visited = 0; states = replicate 16 0; len = 0 }
+start = record { visited = 0; states = replicate maxStates 0; len = 0 }
 
 start-holds : WalkOf [] start
 unfolding section table elem
 start-holds = record { seen = fun-ext zero-members; numbers = refl; long = refl }
 
-pub start-ready : (n : ℕ) → 0 < n → n ≤ 16 → Ready n 0 start
+pub start-ready : (n : ℕ) → 0 < n → n ≤ maxStates → Ready n 0 start
 start-ready n l m = record {
   inside = l;
   few = m;
@@ -189,7 +190,7 @@ start-ready n l m = record {
 
 -- after the visit of State One and what follows it has the order
 pub order-held : (links : List ℕ) (w w' : Walk) → Visited links 0 start w
-    → ((xs : List ℕ) → WalkOf xs w → WalkOf (rest (length links) xs) w') → w' .states ≡ section 16 (order (linkedBy links))
+    → ((xs : List ℕ) → WalkOf xs w → WalkOf (rest (length links) xs) w') → w' .states ≡ section maxStates (order (linkedBy links))
 unfolding order
 order-held links w w' v f =
     f (visit (linkedBy links) (length links) 0 []) (v .holds [] (length links) start-holds (omega arith)) .numbers

@@ -11,11 +11,12 @@ use Rattle.session.specs.Reached.{linkedBy}
 use Rattle.session.specs.Layout.{section}
 use Rattle.listing.specs.Order.{fold, visit}
 use Rattle.walk_order.specs.declared.Walk.{Walk}
+use Rattle.session.specs.Limits.{maxStates}
 
 -- the walk holds this list of indices: their set, their numbers with zeros after them, and how many they are
 pub record WalkOf (xs : List ℕ) (w : Walk) : Type 0 where
   pub seen : members (w .visited) ≡ (λ u. elem u xs)
-  pub numbers : w .states ≡ section 16 (map (λ u. u + 1) xs)
+  pub numbers : w .states ≡ section maxStates (map (λ u. u + 1) xs)
   pub long : w .len ≡ length xs
 
 -- as many are written as were visited of the states below n
@@ -35,7 +36,7 @@ pub record Written (state : ℕ) (w w' : Walk) : Type 0 where
 -- a state of n that the walk can visit
 pub record Ready (n state : ℕ) (w : Walk) : Type 0 where
   pub inside : state < n
-  pub few : n ≤ 16
+  pub few : n ≤ maxStates
   pub unseen : members (w .visited) state ≡ false
   pub counted : Counted n w
 

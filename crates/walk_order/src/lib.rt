@@ -8,17 +8,18 @@ ghost use Rattle.listing.specs.Order.{order};
 ghost use Rattle.session.specs.Reached.{linkedBy};
 ghost use Rattle.walk_order.specs.Walks.{WalkOf, Counted, Written, Ready, Visited, rest};
 ghost use Rattle.session.specs.Limits.{maxStates};
+use session::MAX_STATES;
 
 // What was visited, as a set, and the numbers of the states in the order in which they were; places past them are zero.
 pub struct Walk {
     pub visited: u32,
-    pub states: [u8; 16],
+    pub states: [u8; MAX_STATES],
     pub len: usize,
 }
 
 // The walk with the state visited and written.
 pub fn written(walk: Walk, state: u32) -> Walk
-    requires { ⌜ (walk .len < 16) × (state < 16) ⌝ }
+    requires { ⌜ (walk .len < maxStates) × (state < maxStates) ⌝ }
     ensures { λ r. ⌜ Written state walk r ⌝ }
 {
     let mut w = walk;
@@ -68,13 +69,13 @@ pub fn followed(states: u32, walk: Walk) -> Walk
 }
 
 // The numbers of the states in depth-first order, zeros after them.
-pub fn ordered(links: &[u32]) -> [u8; 16]
-    requires { ⌜ (0 < length (now links)) × (length (now links) ≤ 16) ⌝ }
-    ensures { λ r. ⌜ r ≡ section 16 (order (linkedBy (now (links .entry)))) ⌝ }
+pub fn ordered(links: &[u32]) -> [u8; MAX_STATES]
+    requires { ⌜ (0 < length (now links)) × (length (now links) ≤ maxStates) ⌝ }
+    ensures { λ r. ⌜ r ≡ section maxStates (order (linkedBy (now (links .entry)))) ⌝ }
 {
     let start = Walk {
         visited: 0,
-        states: [0u8; 16],
+        states: [0u8; MAX_STATES],
         len: 0,
     };
     let reached = visit(links, 0, start);

@@ -13,6 +13,7 @@ use Rattle.simulation.proofs.Sets.{clash, split, refuted, and-l, and-r, or-both
 use Rattle.worklist.specs.Waiting.{waits}
 use Rattle.edge_indexes.specs.Indexes.{endsAt, Indexed, predecessors}
 use Rattle.edge_indexes.proofs.Incoming.{called, called-all, Chained, chained-head, called-head, chained-next, called-next}
+use Rattle.session.specs.Limits.{maxNodes}
 
 -- ---- the predecessors called in
 
@@ -25,7 +26,7 @@ pub calling-done : {es : List ℕ} {P : Set} {v : ℕ} {ws ws' : List ℕ} → C
 calling-done {es} {P} {v} {ws} y = y .waiting ∙ fun-ext (λ w. ap (λ (b : Bool). waits ws w || (b && P w)) (called-all es v w))
 
 module _ {es heads nexts : List ℕ} (x : Indexed es heads nexts) (P : Set) where
-  pub calling-none : (v : ℕ) (ws : List ℕ) → v < 512 → Calling es P v ws ws (getD heads v 0)
+  pub calling-none : (v : ℕ) (ws : List ℕ) → v < maxNodes → Calling es P v ws ws (getD heads v 0)
   calling-none v ws h =
       record {
         chain = chained-head x v h;
@@ -34,7 +35,7 @@ module _ {es heads nexts : List ℕ} (x : Indexed es heads nexts) (P : Set) wher
 
   module _ {v n : ℕ} {ws ws' : List ℕ} (y : Calling es P v ws ws' n) (some : n ≡ 0 → ⊥) where
     abbrev start : ℕ
-    start = getD es (n - 1) 0 / 512
+    start = getD es (n - 1) 0 / maxNodes
 
     -- with one edge less left
     one-more : (w : ℕ) → (waits ws w || (called es v (getD nexts (n - 1) 0) w && P w)) ≡ (waits ws' w || (eqb w start && P w))
@@ -77,23 +78,23 @@ module _ {es heads nexts : List ℕ} (x : Indexed es heads nexts) (P : Set) wher
 module _ (es : List ℕ) (P : Set) (v : ℕ) where
   -- w has one of the first k edges, and it leads to v
   abbrev pub leadsTo : ℕ → Set
-  leadsTo k w = anyBelow k (λ j. endsAt es v j && eqb (getD es j 0 / 512) w)
+  leadsTo k w = anyBelow k (λ j. endsAt es v j && eqb (getD es j 0 / maxNodes) w)
 
   pub leads-none : (ws : List ℕ) → waits ws ≡ (λ w. waits ws w || (leadsTo 0 w && P w))
   unfolding anyBelow
   leads-none ws = fun-ext (λ w. sym (or-false (waits ws w)))
 
   pub leads-more : (ws ws' ws'' : List ℕ) (k : ℕ) → waits ws' ≡ (λ w. waits ws w || (leadsTo k w && P w))
-      → waits ws'' ≡ (λ w. waits ws' w || ((endsAt es v k && eqb (getD es k 0 / 512) w) && P w))
+      → waits ws'' ≡ (λ w. waits ws' w || ((endsAt es v k && eqb (getD es k 0 / maxNodes) w) && P w))
       → waits ws'' ≡ (λ w. waits ws w || (leadsTo (k + 1) w && P w))
   unfolding anyBelow
   leads-more ws ws' ws'' k e h =
       h
       ∙ fun-ext
       (λ w.
-      ap (λ (X : Set). X w || ((endsAt es v k && eqb (getD es k 0 / 512) w) && P w)) e
-      ∙ or-both (waits ws w) (leadsTo k w) (endsAt es v k && eqb (getD es k 0 / 512) w) (P w)
-      ∙ ap (λ (b : Bool). waits ws w || (b && P w)) (or-comm (leadsTo k w) (endsAt es v k && eqb (getD es k 0 / 512) w))
+      ap (λ (X : Set). X w || ((endsAt es v k && eqb (getD es k 0 / maxNodes) w) && P w)) e
+      ∙ or-both (waits ws w) (leadsTo k w) (endsAt es v k && eqb (getD es k 0 / maxNodes) w) (P w)
+      ∙ ap (λ (b : Bool). waits ws w || (b && P w)) (or-comm (leadsTo k w) (endsAt es v k && eqb (getD es k 0 / maxNodes) w))
       ∙ ap (λ (n : ℕ). waits ws w || (leadsTo n w && P w)) (sym (add-one k)))
 
   pub leads-all : (w : ℕ) → leadsTo (length es) w ≡ predecessors es v w
@@ -103,9 +104,9 @@ module _ (es : List ℕ) (P : Set) (v : ℕ) where
 -- one edge: its start is put in, or nothing is
 module _ (edge v : ℕ) (P : Set) (ws : List ℕ) where
   abbrev startsHere : Set
-  startsHere w = (eqb (edge % 512) v && eqb (edge / 512) w) && P w
+  startsHere w = (eqb (edge % maxNodes) v && eqb (edge / maxNodes) w) && P w
 
-  pub one-in : (ws' : List ℕ) → edge % 512 ≡ v → P (edge / 512) ≡ true → waits ws' ≡ also (waits ws) (edge / 512)
+  pub one-in : (ws' : List ℕ) → edge % maxNodes ≡ v → P (edge / maxNodes) ≡ true → waits ws' ≡ also (waits ws) (edge / maxNodes)
       → waits ws' ≡ (λ w. waits ws w || startsHere w)
   one-in ws' at pass e =
       e
@@ -113,27 +114,27 @@ module _ (edge v : ℕ) (P : Set) (ws : List ℕ) where
       (λ w.
       ap (λ (b : Bool). waits ws w || b)
       (⊎-elim
-      (λ (t : eqb w (edge / 512) ≡ true).
-      t ∙ sym (rw (eqb-true w (edge / 512) t, eq-eqb (edge % 512) v at, eq-eqb (edge / 512) (edge / 512) refl) pass))
-      (λ (t : eqb w (edge / 512) ≡ false).
+      (λ (t : eqb w (edge / maxNodes) ≡ true).
+      t ∙ sym (rw (eqb-true w (edge / maxNodes) t, eq-eqb (edge % maxNodes) v at, eq-eqb (edge / maxNodes) (edge / maxNodes) refl) pass))
+      (λ (t : eqb w (edge / maxNodes) ≡ false).
       t
       ∙ sym
       (refuted (startsHere w)
       (λ h.
-      eqb-false w (edge / 512) t
-      (sym (eqb-true (edge / 512) w (and-r (eqb (edge % 512) v) (eqb (edge / 512) w) (and-l (eqb (edge % 512) v && eqb (edge / 512) w) (P w) h)))))))
-      (split (eqb w (edge / 512)))))
+      eqb-false w (edge / maxNodes) t
+      (sym (eqb-true (edge / maxNodes) w (and-r (eqb (edge % maxNodes) v) (eqb (edge / maxNodes) w) (and-l (eqb (edge % maxNodes) v && eqb (edge / maxNodes) w) (P w) h)))))))
+      (split (eqb w (edge / maxNodes)))))
 
   -- it ends elsewhere, or its start fails
   pub one-out : ((w : ℕ) → startsHere w ≡ false) → waits ws ≡ (λ w. waits ws w || startsHere w)
   one-out none = fun-ext (λ w. sym (ap (λ (b : Bool). waits ws w || b) (none w) ∙ or-false (waits ws w)))
 
-  pub ends-elsewhere : (edge % 512 ≡ v → ⊥) → (w : ℕ) → startsHere w ≡ false
-  ends-elsewhere ne w = rw (ne-eqb (edge % 512) v ne) refl
+  pub ends-elsewhere : (edge % maxNodes ≡ v → ⊥) → (w : ℕ) → startsHere w ≡ false
+  ends-elsewhere ne w = rw (ne-eqb (edge % maxNodes) v ne) refl
 
-  pub start-fails : P (edge / 512) ≡ false → (w : ℕ) → startsHere w ≡ false
+  pub start-fails : P (edge / maxNodes) ≡ false → (w : ℕ) → startsHere w ≡ false
   start-fails fails w =
       refuted (startsHere w)
       (λ h.
-      let here = eqb-true (edge / 512) w (and-r (eqb (edge % 512) v) (eqb (edge / 512) w) (and-l (eqb (edge % 512) v && eqb (edge / 512) w) (P w) h)) in
-      clash (and-r (eqb (edge % 512) v && eqb (edge / 512) w) (P w) h) (subst (λ (x : ℕ). P x ≡ false) here fails))
+      let here = eqb-true (edge / maxNodes) w (and-r (eqb (edge % maxNodes) v) (eqb (edge / maxNodes) w) (and-l (eqb (edge % maxNodes) v && eqb (edge / maxNodes) w) (P w) h)) in
+      clash (and-r (eqb (edge % maxNodes) v && eqb (edge / maxNodes) w) (P w) h) (subst (λ (x : ℕ). P x ≡ false) here fails))

@@ -8,12 +8,13 @@ use Rattle.session.specs.Layout.{section}
 use Rattle.sections.proofs.Fills.{Filled, fill-start, fill-step}
 use Rattle.answer_numbers.proofs.fill_front.Statement.{statement}
 use Rattle.answer_numbers.proofs.fill_front.Tie as tie
+use Rattle.session.specs.Limits.{maxStates}
 
 abbrev Inv-loop : tie.InvT-loop
-Inv-loop places₀ order i₀ places i = (i ≤ 16) × Filled (λ j. getD order j 0) places₀ places i
+Inv-loop places₀ order i₀ places i = (i ≤ maxStates) × Filled (λ j. getD order j 0) places₀ places i
 
 abbrev μ-loop : tie.MeasureT-loop
-μ-loop places₀ order i₀ places i = 16 - i
+μ-loop places₀ order i₀ places i = maxStates - i
 
 loop-holds : tie.Need-loop-holds Inv-loop μ-loop
 loop-holds c = (omega arith, fill-start (λ j. getD (c .args .order .now) j 0) (c .args .places .now))
@@ -44,7 +45,7 @@ unfolding section
 returns c =
     let s = c .before .before in
     let l = c .before .loop in
-    let end : l .i ≡ 16 = omega arith in
+    let end : l .i ≡ maxStates = omega arith in
     rw end at (l .inv .1 .holds)
 
 pub fill-front-spec : {M : Type 1} → statement M

@@ -8,6 +8,7 @@ use lib.Pow.{pow-pos, pow-mono, shl-exact}
 use Rattle.bits.proofs.Words.{full-members}
 use Rattle.bits.proofs.below.Statement.{statement}
 use Rattle.bits.proofs.below.Tie as tie
+use Rattle.bits.specs.Word.{setBits}
 
 -- the shift does not wrap
 power : (c : tie.Start) → 1 * 2 ^ c .args .n % 2 ^ 64 ≡ 2 ^ c .args .n
@@ -20,7 +21,7 @@ sub-result : tie.Need-sub-result
 sub-result c = omega (arith, power c, pow-pos (c .args .n))
 
 cast-result : tie.Need-cast-result
-cast-result c = omega (arith, power c, pow-mono {j = 32} (c .pre))
+cast-result c = omega (arith, power c, pow-mono {j = setBits} (c .pre))
 
 returns : tie.Need-returns
 returns c = rw (power c) (refl, full-members (c .args .n))

@@ -1,7 +1,7 @@
 -- `inside` meets its contract: a subset of the numbers below n.
 use borrow.Author.Needs.{needs}
 use mathlib.Core.Path.{ap, _∙_}
-use Rattle.bits.specs.Word.{within}
+use Rattle.bits.specs.Word.{within, setBits}
 use Rattle.bits.proofs.Tests.{within-inside}
 use Rattle.bits.proofs.inside.Statement.{statement}
 use Rattle.bits.proofs.inside.Tie as tie
@@ -15,7 +15,7 @@ subset-requires c κs = search needs
 returns : tie.Need-returns
 returns c =
     let a = c .before .before .args in
-    c .subset .ensures ∙ ap (within 32 (a .word)) (c .before .below .ensures .0) ∙ within-inside 32 (a .n) (a .word) (search needs)
+    c .subset .ensures ∙ ap (within setBits (a .word)) (c .before .below .ensures .0) ∙ within-inside setBits (a .n) (a .word) (search needs)
 
 pub inside-spec : {M : Type 1} → statement M
 inside-spec = tie.close (tie.spec below-requires subset-requires returns)

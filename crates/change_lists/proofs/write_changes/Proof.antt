@@ -12,10 +12,11 @@ use Rattle.listing.specs.Placed.{tableChanges, Placed}
 use Rattle.listing.proofs.Placing.{placed-start, node-short, table-none, table-same, table-wrote, table-passed}
 use Rattle.change_lists.proofs.write_changes.Statement.{statement}
 use Rattle.change_lists.proofs.write_changes.Tie as tie
+use Rattle.session.specs.Limits.{maxStates}
 
 abbrev Inv-loop : tie.InvT-loop
 Inv-loop changes₀ states nodes before after next₀ v₀ changes next v =
-    (v ≤ nodes) × (next ≤ v * 16) × (length changes ≡ length changes₀) × Placed changes₀ 0 (tableChanges states v before after) changes next
+    (v ≤ nodes) × (next ≤ v * maxStates) × (length changes ≡ length changes₀) × Placed changes₀ 0 (tableChanges states v before after) changes next
 
 abbrev μ-loop : tie.MeasureT-loop
 μ-loop changes₀ states nodes before after next₀ v₀ changes next v = nodes - v

@@ -13,6 +13,7 @@ use Rattle.editing.specs.Steps.{RefinedAt}
 use borrow.Author.Needs.{needs}
 use Rattle.deletion.proofs.cease.Statement.{statement}
 use Rattle.deletion.proofs.cease.Tie as tie
+use Rattle.session.specs.Limits.{maxNodes}
 
 -- the table holds the marks
 all : (s : tie.Start) → marked (s .args .table .now) ≡ marksOf (s .args .session .now)
@@ -35,7 +36,7 @@ returns : tie.Need-returns
 returns c =
     let s = c .before .before .before .before .before .before .before in
     let r : RefinedAt (s .args .session .now) (s .args .start) (λ u v. false) (marksOf (s .args .session .now)) _ =
-    rw (marked-none (replicate 512 0) (zeros 512), all s) at (c .before .before .refine-at .ensures) in
+    rw (marked-none (replicate maxNodes 0) (zeros maxNodes), all s) at (c .before .before .refine-at .ensures) in
     record { long = r .long; within = r .within; exact = r .exact }
 
 pub cease-spec : {M : Type 1} → statement M

@@ -3,7 +3,7 @@ use borrow.Author.Needs.{needs}
 use native.Mathlib.Omega.{arith}
 use mathlib.Core.Path.{_≡_, _∙_, ap}
 use lib.ListN.{length, take, drop}
-use Rattle.session.specs.Limits.{marksAt}
+use Rattle.session.specs.Limits.{marksAt, maxNodes}
 use Rattle.session.proofs.Decoded.{Bounded, layout-limits}
 use Rattle.session_parts.proofs.Parts.{marks-long}
 use Rattle.deletion.proofs.Counting.{gone-states, gone-counted}
@@ -17,7 +17,7 @@ abbrev bounded : (c : tie.After-shared-slice-known4) → Bounded (start c .args 
 bounded c = layout-limits (start c .args .session .now) (start c .pre .0)
 
 -- the marks are saved whole
-saved : (c : tie.After-copy-words) → c .copy-words .last .0 ≡ take 512 (drop marksAt (start (c .before .before .before) .args .session .now))
+saved : (c : tie.After-copy-words) → c .copy-words .last .0 ≡ take maxNodes (drop marksAt (start (c .before .before .before) .args .session .now))
 saved c = c .copy-words .ensures ∙ c .before .marks-of .ensures
 
 shared-slice-read-states : tie.Need-shared-slice-read-states

@@ -3,7 +3,7 @@ use Prim.Native.Nat.{_<_}
 use mathlib.Core.Path.{_≡_, sym, _∙_, ap}
 use mathlib.Core.Bool.{true}
 use lib.ListN.{length, take, drop}
-use Rattle.session.specs.Limits.{marksAt}
+use Rattle.session.specs.Limits.{marksAt, maxNodes}
 use Rattle.session.specs.Trigger.{nodes}
 use Rattle.session.specs.Layout.{triggerOf, graphOf, marksOf, inLayout}
 use Rattle.promises.specs.Rules.{deletion, edited}
@@ -35,7 +35,7 @@ inside c = let s = start c in deleted-start (s .args .session .now) (s .args .st
 abbrev edge-out : tie.After-copy-words → tie.After-remove-edge
 edge-out c = c .before .before .before .before .before .before .before .before .before
 
-saved : (c : tie.After-copy-words) → c .copy-words .last .0 ≡ take 512 (drop marksAt (edge-out c .remove-edge .last .0))
+saved : (c : tie.After-copy-words) → c .copy-words .last .0 ≡ take maxNodes (drop marksAt (edge-out c .remove-edge .last .0))
 saved c = c .copy-words .ensures ∙ c .before .marks-of .ensures
 
 -- what refinement leaves

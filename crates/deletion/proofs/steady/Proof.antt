@@ -15,12 +15,13 @@ use Rattle.deletion.proofs.SteadyNodes.{steady-is, unmet-none}
 use borrow.Author.Needs.{needs}
 use Rattle.deletion.proofs.steady.Statement.{statement}
 use Rattle.deletion.proofs.steady.Tie as tie
+use Rattle.session.specs.Limits.{maxNodes}
 
 -- a word for each of 512 nodes, and the node is one of them
-long : (c : tie.After-marks-of) → length (c .marks-of .result .now) ≡ 512
+long : (c : tie.After-marks-of) → length (c .marks-of .result .now) ≡ maxNodes
 long c = let s = c .before .before in ap length (c .marks-of .ensures) ∙ marks-long (s .args .session .now) (s .pre .0)
 
-inside : (s : tie.Start) → s .args .node < 512
+inside : (s : tie.Start) → s .args .node < maxNodes
 inside s = omega (arith, s .pre .1, layout-facts (s .args .session .now) (s .pre .0) .graph .few)
 
 marks-of-requires : tie.Need-marks-of-requires

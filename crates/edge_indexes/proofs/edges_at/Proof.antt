@@ -8,6 +8,7 @@ use lib.ListN.{getD}
 use native.Mathlib.Omega.{arith}
 use Rattle.edge_indexes.proofs.edges_at.Statement.{statement}
 use Rattle.edge_indexes.proofs.edges_at.Tie as tie
+use Rattle.session.specs.Limits.{maxNodes}
 
 -- there is an index
 started : (e : tie.Else1) → Started (e .before .before .before .args .edges .now) (e .before .before .before .args .firsts .now)
@@ -41,16 +42,16 @@ cast-high : tie.Need-cast-high
 cast-high c = omega (arith, c .shared-slice-known4 .given (c .before .before .before .before .before .args .v + 1))
 
 mul-result : tie.Need-mul-result
-mul-result c = let e = c .before .before in let a = e .before .before .before .args in omega (arith, started e .first (a .v) (omega arith), from-le 512 (a .edges .now) (a .v), e .before .before .before .pre .0 .1)
+mul-result c = let e = c .before .before in let a = e .before .before .before .args in omega (arith, started e .first (a .v) (omega arith), from-le maxNodes (a .edges .now) (a .v), e .before .before .before .pre .0 .1)
 
 sub-result : tie.Need-sub-result
-sub-result c = let e = c .before .before in let a = e .before .before .before .args in omega (arith, started e .first (a .v) (omega arith), started e .first (a .v + 1) (omega arith), from-mono 512 (a .edges .now) (a .v))
+sub-result c = let e = c .before .before in let a = e .before .before .before .args in omega (arith, started e .first (a .v) (omega arith), started e .first (a .v + 1) (omega arith), from-mono maxNodes (a .edges .now) (a .v))
 
 part-result-start : tie.Need-part-result-start
-part-result-start c = let e = c .before .before in let a = e .before .before .before .args in omega (arith, started e .first (a .v) (omega arith), started e .first (a .v + 1) (omega arith), from-mono 512 (a .edges .now) (a .v))
+part-result-start c = let e = c .before .before in let a = e .before .before .before .args in omega (arith, started e .first (a .v) (omega arith), started e .first (a .v + 1) (omega arith), from-mono maxNodes (a .edges .now) (a .v))
 
 part-result-end : tie.Need-part-result-end
-part-result-end c = let e = c .before .before in let a = e .before .before .before .args in omega (arith, started e .first (a .v + 1) (omega arith), from-le 512 (a .edges .now) (a .v + 1))
+part-result-end c = let e = c .before .before in let a = e .before .before .before .args in omega (arith, started e .first (a .v + 1) (omega arith), from-le maxNodes (a .edges .now) (a .v + 1))
 
 returns-2 : tie.Need-returns-2
 returns-2 c =

@@ -6,6 +6,7 @@ use borrow.Author.Needs.{needs}
 use native.Mathlib.Omega.{arith}
 use Rattle.edge_indexes.proofs.edges_from.Statement.{statement}
 use Rattle.edge_indexes.proofs.edges_from.Tie as tie
+use Rattle.session.specs.Limits.{maxNodes}
 
 cast-first-edge : tie.Need-cast-first-edge
 cast-first-edge c = search needs
@@ -23,16 +24,16 @@ first-edge-requires-2 : tie.Need-first-edge-requires-2
 first-edge-requires-2 c κs = search needs
 
 mul-result : tie.Need-mul-result
-mul-result c = let a = c .before .before .before .args in omega (arith, c .before .first-edge .ensures, from-le 512 (a .edges .now) (a .v))
+mul-result c = let a = c .before .before .before .args in omega (arith, c .before .first-edge .ensures, from-le maxNodes (a .edges .now) (a .v))
 
 sub-result : tie.Need-sub-result
-sub-result c = let a = c .before .before .before .args in omega (arith, c .first-edge2 .ensures, c .before .first-edge .ensures, from-mono 512 (a .edges .now) (a .v))
+sub-result c = let a = c .before .before .before .args in omega (arith, c .first-edge2 .ensures, c .before .first-edge .ensures, from-mono maxNodes (a .edges .now) (a .v))
 
 part-result-start : tie.Need-part-result-start
-part-result-start c = let a = c .before .before .before .args in omega (arith, c .first-edge2 .ensures, c .before .first-edge .ensures, from-mono 512 (a .edges .now) (a .v))
+part-result-start c = let a = c .before .before .before .args in omega (arith, c .first-edge2 .ensures, c .before .first-edge .ensures, from-mono maxNodes (a .edges .now) (a .v))
 
 part-result-end : tie.Need-part-result-end
-part-result-end c = let a = c .before .before .before .args in omega (arith, c .first-edge2 .ensures, from-le 512 (a .edges .now) (a .v + 1))
+part-result-end c = let a = c .before .before .before .args in omega (arith, c .first-edge2 .ensures, from-le maxNodes (a .edges .now) (a .v + 1))
 
 returns : tie.Need-returns
 returns c =

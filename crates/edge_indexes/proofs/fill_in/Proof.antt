@@ -7,12 +7,13 @@ use mathlib.Core.Path.{_∙_}
 use native.Mathlib.Omega.{arith}
 use Rattle.edge_indexes.proofs.fill_in.Statement.{statement}
 use Rattle.edge_indexes.proofs.fill_in.Tie as tie
+use Rattle.edge_indexes.specs.Indexes.{startsSize}
 
 abbrev Inv-loop : tie.InvT-loop
 Inv-loop firsts₀ place₀ v₀ firsts place v = Filling firsts₀ firsts place v
 
 abbrev μ-loop : tie.MeasureT-loop
-μ-loop firsts₀ place₀ v₀ firsts place v = 513 - v
+μ-loop firsts₀ place₀ v₀ firsts place v = startsSize - v
 
 slice-read-place : tie.Need-slice-read-place Inv-loop μ-loop
 slice-read-place c = search needs
@@ -42,7 +43,7 @@ loop-again : tie.Need-loop-again Inv-loop μ-loop
 loop-again c =
     let t = c .before .before in
     let x = t .before .loop .inv in
-    let inside : t .before .loop .v < 513 = omega (arith, t .loop-test .taken) in
+    let inside : t .before .loop .v < startsSize = omega (arith, t .loop-test .taken) in
     filling-next x inside (c .if1 .place)
     (⊎-elim
     (λ w. w .1 ∙ filled-noted x inside (w .0 .taken))

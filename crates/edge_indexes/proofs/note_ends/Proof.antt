@@ -7,6 +7,7 @@ use Rattle.session.proofs.Tables.{below-take}
 use Rattle.edge_indexes.proofs.Firsts.{Noting, noting-none, noting-more, noting-done}
 use Rattle.edge_indexes.proofs.note_ends.Statement.{statement}
 use Rattle.edge_indexes.proofs.note_ends.Tie as tie
+use Rattle.session.specs.Limits.{edgeNumbers}
 
 abbrev Inv-loop : tie.InvT-loop
 Inv-loop edges firsts₀ k₀ firsts k = Noting edges firsts k
@@ -15,8 +16,8 @@ abbrev μ-loop : tie.MeasureT-loop
 μ-loop edges firsts₀ k₀ firsts k = length edges - k
 
 -- the edge that is read is one between nodes
-inside : (t : tie.In-loop Inv-loop μ-loop) → getD (t .before .before .args .edges .now) (t .before .loop .k) 0 < 262144
-inside t = below-take 262144 (t .before .before .args .edges .now) (t .before .before .pre .0 .1) (t .before .loop .k) (t .loop-test .taken)
+inside : (t : tie.In-loop Inv-loop μ-loop) → getD (t .before .before .args .edges .now) (t .before .loop .k) 0 < edgeNumbers
+inside t = below-take edgeNumbers (t .before .before .args .edges .now) (t .before .before .pre .0 .1) (t .before .loop .k) (t .loop-test .taken)
 
 loop-holds : tie.Need-loop-holds Inv-loop μ-loop
 loop-holds c = noting-none (c .pre .0 .2) (c .pre .1)

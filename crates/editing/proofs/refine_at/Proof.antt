@@ -8,6 +8,7 @@ use Rattle.editing.proofs.Refining.{start-waits, refined-at}
 use borrow.Author.Needs.{needs}
 use Rattle.editing.proofs.refine_at.Statement.{statement}
 use Rattle.editing.proofs.refine_at.Tie as tie
+use Rattle.worklist.specs.Waiting.{waitingWords}
 
 abbrev start : tie.After-shared-slice-known3 → tie.Start
 start c = c .before .before .before .before
@@ -57,7 +58,7 @@ returns c =
     let s = start (c .before .before .before .before .before .before .before .before .before .before .before) in
     let put = c .before .before .before .before .before .before .before .before .before .put-in in
     refined-at (s .args .session .now) (s .pre .0) _ _ (c .before .before .before .before .before .before .before .links-of .ensures) (c .before .before .before .before .before .before .edges-of .ensures) _ _ _ _ (c .before .before .before .refine-few .ensures)
-    (s .pre .3) (s .pre .4) (s .args .node) (start-waits (replicate 16 0) (put .last .0) (s .args .node) (put .ensures .1))
+    (s .pre .3) (s .pre .4) (s .args .node) (start-waits (replicate waitingWords 0) (put .last .0) (s .args .node) (put .ensures .1))
 
 pub refine-at-spec : {M : Type 1} → statement M
 refine-at-spec =

@@ -7,6 +7,7 @@ use Rattle.refinement.proofs.Turns.{sound-wider}
 use Rattle.growth.proofs.Growing.{Growing, left, growing-start, growing-more, growing-less, growing-end}
 use Rattle.growth.proofs.grow.Statement.{statement}
 use Rattle.growth.proofs.grow.Tie as tie
+use Rattle.bits.specs.Word.{setBits}
 
 abbrev Inv-loop : tie.InvT-loop
 Inv-loop links edges nodes fresh trials₀ waiting₀ heads nexts callers v₀ trials waiting v = Growing nodes links edges fresh trials₀ trials waiting v
@@ -22,7 +23,7 @@ slice-aggregate-index-callers : tie.Need-slice-aggregate-index-callers Inv-loop 
 slice-aggregate-index-callers c = search needs
 
 index-callers-requires : tie.Need-index-callers-requires Inv-loop μ-loop
-index-callers-requires c κs = let s = c .before .before .before .before .before .before .before .before in (omega (arith, s .pre .1 .0 .0 .few-states), refl, zeros 32)
+index-callers-requires c κs = let s = c .before .before .before .before .before .before .before .before in (omega (arith, s .pre .1 .0 .0 .few-states), refl, zeros setBits)
 
 lowest-in-requires : tie.Need-lowest-in-requires Inv-loop μ-loop
 lowest-in-requires c κs = search needs

@@ -21,6 +21,7 @@ use Rattle.insertion.proofs.Inserted.{in-layout, start-near, end-near, 
 use borrow.Author.Needs.{needs}
 use Rattle.insertion.proofs.insert_edit.Statement.{statement}
 use Rattle.insertion.proofs.insert_edit.Tie as tie
+use Rattle.session.specs.Limits.{maxNodes}
 
 -- the session with the edge in it
 abbrev entry : tie.After-insert-edge → tie.Start
@@ -104,7 +105,7 @@ try-out-requires : tie.Need-try-out-requires
 try-out-requires c κs =
     let d = c .before .before .before .before .before .before .before .before .before in
     let i = edge-in d in
-    ((layout i, near i, refl, zeros 512), (entry i .args .end, d .seeds-at .ensures))
+    ((layout i, near i, refl, zeros maxNodes), (entry i .args .end, d .seeds-at .ensures))
 
 slice-aggregate-put-together : tie.Need-slice-aggregate-put-together
 slice-aggregate-put-together c = search needs

@@ -9,6 +9,7 @@ use Rattle.editing.specs.Steps.{Holds}
 use borrow.Author.Needs.{needs}
 use Rattle.insertion.proofs.try_grown.Statement.{statement}
 use Rattle.insertion.proofs.try_grown.Tie as tie
+use Rattle.session.specs.Limits.{maxNodes}
 
 abbrev bounded : (s : tie.Start) → Bounded (s .args .session .now)
 bounded s = layout-limits (s .args .session .now) (s .pre .0 .0)
@@ -44,7 +45,7 @@ slice-aggregate-index-2 : tie.Need-slice-aggregate-index-2
 slice-aggregate-index-2 c = search needs
 
 index-requires : tie.Need-index-requires
-index-requires c κs = let s = c .before .before .before .before .before .before .before in rw (c .before .before .edges-of .ensures) ((facts s .graph .few-edges, refl, refl), zeros 512)
+index-requires c κs = let s = c .before .before .before .before .before .before .before in rw (c .before .before .edges-of .ensures) ((facts s .graph .few-edges, refl, refl), zeros maxNodes)
 
 slice-aggregate-try-pairs : tie.Need-slice-aggregate-try-pairs
 slice-aggregate-try-pairs c = search needs

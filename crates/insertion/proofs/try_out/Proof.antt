@@ -7,7 +7,7 @@ use lib.ListN.{set, getD}
 use lib.Seq.{getD-set-same, getD-set-other}
 use borrow.Author.Tests.{not-false}
 use Rattle.simulation.specs.Sets.{count}
-use Rattle.bits.specs.Word.{members}
+use Rattle.bits.specs.Word.{members, setBits}
 use Rattle.session.specs.Layout.{triggerOf, graphOf, marksOf}
 use Rattle.session.proofs.Decoded.{LayoutFacts, layout-facts}
 use Rattle.pair_tables.proofs.Tabling.{pairs-single}
@@ -93,7 +93,7 @@ returns-2 c =
       left = c .before .before .before .begin-at .ensures;
       counted =
           c .size .ensures
-          ∙ ap (λ (w : ℕ). count 32 (members w)) (sym (getD-set-same (a .table .now) (a .start) (a .seeds) 0 (omega (arith, s .pre .0 .1, s .pre .0 .2, f .graph .few))))
+          ∙ ap (λ (w : ℕ). count setBits (members w)) (sym (getD-set-same (a .table .now) (a .start) (a .seeds) 0 (omega (arith, s .pre .0 .1, s .pre .0 .2, f .graph .few))))
           ∙ sym (pairs-single (seeded s) (getD (a .session .now) 0 0) (omega (arith, f .counts .0, f .trigger .few)) (λ u v e. omega (arith, h .inside u v e .0, f .counts .0)) (a .start) (others s) _ (omega (arith, s .pre .0 .1, f .counts .1)));
     }
 

@@ -1,6 +1,6 @@
 -- `graph_fits` meets its contract: each test is made where those before it hold.
 use Prim.Native.Nat.{_+_, _-_}
-use Rattle.session.specs.Limits.{edgesAt, marksAt}
+use Rattle.session.specs.Limits.{edgesAt, marksAt, maxEdges}
 use Rattle.session.specs.Layout.{part, below}
 use Rattle.session.specs.Tests.{graphTest}
 use Rattle.simulation.specs.Ordered.{ascends}
@@ -13,7 +13,7 @@ use Rattle.layout_test.proofs.graph_fits.Tie as tie
 -- the parts of the edges, by their lengths
 rest : (c : tie.After-all-zero)
     → let a = c .before .before .before .before .before .before .args in
-    c .all-zero .result ≡ below 1 (part (a .session .now) (edgesAt + a .edges) (2048 - a .edges))
+    c .all-zero .result ≡ below 1 (part (a .session .now) (edgesAt + a .edges) (maxEdges - a .edges))
 rest c =
     let a = c .before .before .before .before .before .before .args in
     rw (sub-add-eq marksAt edgesAt (a .edges)) at (c .all-zero .ensures)

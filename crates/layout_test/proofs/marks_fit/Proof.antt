@@ -64,7 +64,7 @@ whole c =
     let used = c .before .before .before .gathered in
     let unused = c .before .gathered2 in
     c .unions-fit .ensures
-    ∙ fits-unions (s .args .session .now) marksAt 512 (s .args .nodes) (omega arith) (omega arith) (s .args .states) (used .result) (unused .result)
+    ∙ fits-unions (s .args .session .now) marksAt maxNodes (s .args .nodes) (omega arith) (omega arith) (s .args .states) (used .result) (unused .result)
     (search needs) (used .ensures) (unused .ensures)
 
 sub-all-admitted : tie.Need-sub-all-admitted

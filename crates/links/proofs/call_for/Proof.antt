@@ -1,5 +1,5 @@
 -- `call_for` meets its contract: the state is in the words of the targets that were taken out of `rest`.
-use Rattle.bits.specs.Word.{members}
+use Rattle.bits.specs.Word.{members, setBits}
 use Rattle.links.proofs.CallerTables.{Calling, calling-start, calling-next, calling-end}
 use Rattle.simulation.proofs.Loops.{without-falls}
 use Rattle.simulation.specs.Sets.{count, without}
@@ -13,7 +13,7 @@ abbrev Inv-loop : tie.InvT-loop
 Inv-loop callers₀ targets u rest₀ callers rest = Calling callers₀ targets u rest callers
 
 abbrev μ-loop : tie.MeasureT-loop
-μ-loop callers₀ targets u rest₀ callers rest = count 32 (members rest)
+μ-loop callers₀ targets u rest₀ callers rest = count setBits (members rest)
 
 -- the lowest target of the rest is taken out
 gone : (c : tie.After-without-lowest Inv-loop μ-loop)
@@ -54,7 +54,7 @@ loop-less : tie.Need-loop-less Inv-loop μ-loop
 loop-less c =
     let l = c .before .before .before .before .before .loop in
     let low = c .before .before .before .lowest in
-    rw (gone c) (without-falls 32 (members (l .rest)) (low .result) (low .ensures .0) (low .ensures .1))
+    rw (gone c) (without-falls setBits (members (l .rest)) (low .result) (low .ensures .0) (low .ensures .1))
 
 loop-again : tie.Need-loop-again Inv-loop μ-loop
 loop-again c =

@@ -1,6 +1,6 @@
 -- `linked` meets its contract: `all` has the links of the states that were taken out of `rest`.
 use Rattle.bits.proofs.Words.{and-members}
-use Rattle.bits.specs.Word.{members}
+use Rattle.bits.specs.Word.{members, setBits}
 use Rattle.links.proofs.LinkSets.{Linking, linking-start, linking-next, linking-done}
 use Rattle.simulation.proofs.Loops.{without-falls}
 use Rattle.simulation.specs.Sets.{Set, count, without}
@@ -14,7 +14,7 @@ abbrev Inv-loop : tie.InvT-loop
 Inv-loop links word all₀ rest₀ all rest = Linking links word all rest
 
 abbrev μ-loop : tie.MeasureT-loop
-μ-loop links word all₀ rest₀ all rest = count 32 (members rest)
+μ-loop links word all₀ rest₀ all rest = count setBits (members rest)
 
 -- the lowest state of the rest is taken out
 gone : (c : tie.After-without-lowest Inv-loop μ-loop) → members (c .without-lowest .result) ≡ without (members (c .before .before .before .before .loop .rest)) (c .before .before .lowest .result)
@@ -48,7 +48,7 @@ without-lowest-requires : tie.Need-without-lowest-requires Inv-loop μ-loop
 without-lowest-requires c κs = search needs
 
 loop-less : tie.Need-loop-less Inv-loop μ-loop
-loop-less c = rw (gone c) (without-falls 32 (members (c .before .before .before .before .loop .rest)) (c .before .before .lowest .result) (c .before .before .lowest .ensures .0) (c .before .before .lowest .ensures .1))
+loop-less c = rw (gone c) (without-falls setBits (members (c .before .before .before .before .loop .rest)) (c .before .before .lowest .result) (c .before .before .lowest .ensures .0) (c .before .before .lowest .ensures .1))
 
 loop-again : tie.Need-loop-again Inv-loop μ-loop
 loop-again c =

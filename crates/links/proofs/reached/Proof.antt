@@ -2,7 +2,7 @@
 use borrow.Author.Needs.{needs}
 use mathlib.Core.Path.{_≡_}
 use Rattle.simulation.specs.Sets.{union, without, count}
-use Rattle.bits.specs.Word.{members}
+use Rattle.bits.specs.Word.{members, setBits}
 use Rattle.links.proofs.Reaching.{Reaching, reaching-start, reaching-next, reaching-less, reaching-done}
 use Rattle.links.proofs.reached.Statement.{statement}
 use Rattle.links.proofs.reached.Tie as tie
@@ -11,7 +11,7 @@ abbrev Inv-loop : tie.InvT-loop
 Inv-loop links all left₀ rest₀ left rest = Reaching links left rest
 
 abbrev μ-loop : tie.MeasureT-loop
-μ-loop links all left₀ rest₀ left rest = count 32 (union (members left) (members rest))
+μ-loop links all left₀ rest₀ left rest = count setBits (union (members left) (members rest))
 
 cast-below : tie.Need-cast-below Inv-loop μ-loop
 cast-below c = search needs

@@ -5,7 +5,7 @@ use mathlib.Core.Bool.{_&&_}
 use mathlib.Core.Path.{_≡_, sym, ap, subst, _∙_}
 use Rattle.simulation.specs.Sets.{Set, count, without}
 use Rattle.simulation.proofs.Loops.{without-falls}
-use Rattle.bits.specs.Word.{members}
+use Rattle.bits.specs.Word.{members, setBits}
 use Rattle.bits.proofs.Words.{and-members}
 use Rattle.links.proofs.LinkSets.{Thinned, thinned-start, thinned-out, thinned-pass, thinned-done}
 use Rattle.links.proofs.unlinked.Statement.{statement}
@@ -15,7 +15,7 @@ abbrev Inv-loop : tie.InvT-loop
 Inv-loop links word others left₀ rest₀ left rest = Thinned links word others left rest
 
 abbrev μ-loop : tie.MeasureT-loop
-μ-loop links word others left₀ rest₀ left rest = count 32 (members rest)
+μ-loop links word others left₀ rest₀ left rest = count setBits (members rest)
 
 -- the lowest state of the rest is taken out
 gone : (c : tie.After-without-lowest Inv-loop μ-loop) → members (c .without-lowest .result) ≡ without (members (c .before .before .before .before .before .before .loop .rest)) (c .before .before .before .before .lowest .result)
@@ -55,7 +55,7 @@ without-lowest-requires : tie.Need-without-lowest-requires Inv-loop μ-loop
 without-lowest-requires c κs = search needs
 
 loop-less : tie.Need-loop-less Inv-loop μ-loop
-loop-less c = rw (gone c) (without-falls 32 (members (c .before .before .before .before .before .before .loop .rest)) (c .before .before .before .before .lowest .result) (c .before .before .before .before .lowest .ensures .0) (c .before .before .before .before .lowest .ensures .1))
+loop-less c = rw (gone c) (without-falls setBits (members (c .before .before .before .before .before .before .loop .rest)) (c .before .before .before .before .lowest .result) (c .before .before .before .before .lowest .ensures .0) (c .before .before .before .before .lowest .ensures .1))
 
 loop-again : tie.Need-loop-again Inv-loop μ-loop
 loop-again c =

@@ -2,7 +2,7 @@
 use borrow.Author.Needs.{needs}
 use mathlib.Core.Path.{ap, _∙_}
 use mathlib.Core.Bool.{not}
-use Rattle.bits.specs.Word.{within}
+use Rattle.bits.specs.Word.{within, setBits}
 use Rattle.bits.proofs.Gathers.{gathered-below}
 use Rattle.session.specs.Layout.{below}
 use Rattle.load_rules.proofs.links_wrong.Statement.{statement}
@@ -27,8 +27,8 @@ returns c =
     let all = c .before .before .gathered in
     ap not
     (c .subset .ensures
-    ∙ ap (within 32 (all .result)) (c .before .below .ensures .0)
-    ∙ gathered-below (all .result) (s .args .links .now) (all .ensures) 32 (s .args .states) (search needs))
+    ∙ ap (within setBits (all .result)) (c .before .below .ensures .0)
+    ∙ gathered-below (all .result) (s .args .links .now) (all .ensures) setBits (s .args .states) (search needs))
 
 pub links-wrong-spec : {M : Type 1} → statement M
 links-wrong-spec =

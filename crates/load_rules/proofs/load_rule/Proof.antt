@@ -10,6 +10,7 @@ use Rattle.promises.proofs.Verdicts.{row-passed, row-broken}
 use Rattle.load_rules.proofs.Given.{few-states, ends-given}
 use Rattle.load_rules.proofs.load_rule.Statement.{statement}
 use Rattle.load_rules.proofs.load_rule.Tie as tie
+use Rattle.session.specs.Limits.{maxNodes}
 
 -- the rules, of what was given
 abbrev rules : tie.Start → List Rule
@@ -52,12 +53,12 @@ left-3 c n h = left-2 (c .before .before) n (row-passed 5 _ _ _ (c .before .link
 returns-4 : tie.Need-returns-4
 returns-4 c =
     let nodes = length (c .before .before .before .before .before .before .before .before .before .before .before .before .before .args .samples .now) in
-    left-3 (c .before) 6 (row-broken 6 _ _ _ refl (lt-ltb 512 nodes (c .if4 .taken)))
+    left-3 (c .before) 6 (row-broken 6 _ _ _ refl (lt-ltb maxNodes nodes (c .if4 .taken)))
 
 left-4 : (c : tie.Else4) → Left 4 (c .before .before .before .before .before .before .before .before .before .before .before .before .before)
 left-4 c n h =
     let nodes = length (c .before .before .before .before .before .before .before .before .before .before .before .before .before .args .samples .now) in
-    left-3 (c .before) n (row-passed 6 _ _ _ refl n (le-ltb 512 nodes (c .if4 .left)) h)
+    left-3 (c .before) n (row-passed 6 _ _ _ refl n (le-ltb maxNodes nodes (c .if4 .left)) h)
 
 edges-wrong-requires : tie.Need-edges-wrong-requires
 edges-wrong-requires c κs = search needs

@@ -14,6 +14,7 @@ use Rattle.promises.proofs.Loads.{load-room, load-elsewhere}
 use Rattle.loading.proofs.Finished.{load-layout, load-inside, load-marked, load-written}
 use Rattle.loading.proofs.load.Statement.{statement}
 use Rattle.loading.proofs.load.Tie as tie
+use Rattle.session.specs.Limits.{maxChanges, maxNodes, wordBits}
 
 abbrev loaded : tie.Start → Given
 loaded s = given (s .args .masks .now) (s .args .values .now) (s .args .links .now) (s .args .inverted) (s .args .samples .now) (s .args .starts .now) (s .args .ends .now)
@@ -22,14 +23,14 @@ loaded s = given (s .args .masks .now) (s .args .values .now) (s .args .links .n
 abbrev known : tie.After-load-rule → tie.Start
 known a = a .before .before .before .before .before .before .before .before
 
-masks-fit : (a : tie.After-load-rule) → below (2 ^ 16) (known a .args .masks .now) ≡ true
-masks-fit a = below-make (2 ^ 16) (known a .args .masks .now) (λ i l. omega (arith, a .before .before .before .before .before .before .shared-slice-known .given i))
+masks-fit : (a : tie.After-load-rule) → below (2 ^ wordBits) (known a .args .masks .now) ≡ true
+masks-fit a = below-make (2 ^ wordBits) (known a .args .masks .now) (λ i l. omega (arith, a .before .before .before .before .before .before .shared-slice-known .given i))
 
-values-fit : (a : tie.After-load-rule) → below (2 ^ 16) (known a .args .values .now) ≡ true
-values-fit a = below-make (2 ^ 16) (known a .args .values .now) (λ i l. omega (arith, a .before .before .before .before .before .shared-slice-known2 .given i))
+values-fit : (a : tie.After-load-rule) → below (2 ^ wordBits) (known a .args .values .now) ≡ true
+values-fit a = below-make (2 ^ wordBits) (known a .args .values .now) (λ i l. omega (arith, a .before .before .before .before .before .shared-slice-known2 .given i))
 
-samples-fit : (a : tie.After-load-rule) → below (2 ^ 16) (known a .args .samples .now) ≡ true
-samples-fit a = below-make (2 ^ 16) (known a .args .samples .now) (λ i l. omega (arith, a .before .before .before .shared-slice-known4 .given i))
+samples-fit : (a : tie.After-load-rule) → below (2 ^ wordBits) (known a .args .samples .now) ≡ true
+samples-fit a = below-make (2 ^ wordBits) (known a .args .samples .now) (λ i l. omega (arith, a .before .before .before .shared-slice-known4 .given i))
 
 -- no rule is broken
 passed : (e : tie.Else1) → verdict (loadRules (length (known (e .before) .args .session .now)) (length (known (e .before) .args .changes .now)) (loaded (known (e .before)))) ≡ 0
@@ -50,7 +51,7 @@ returns c =
 write-sections-requires : tie.Need-write-sections-requires
 write-sections-requires c κs =
     let s = known (c .before .before) in
-    load-elsewhere (length (s .args .session .now)) (length (s .args .changes .now)) (loaded s) (passed (c .before)) 8192 (omega arith)
+    load-elsewhere (length (s .args .session .now)) (length (s .args .changes .now)) (loaded s) (passed (c .before)) maxChanges (omega arith)
 
 slice-aggregate-solve : tie.Need-slice-aggregate-solve
 slice-aggregate-solve c = search needs
@@ -67,7 +68,7 @@ layout w =
     (w .write-sections .last .0) (w .write-sections .ensures)
 
 solve-requires : tie.Need-solve-requires
-solve-requires c κs = (layout (c .before .before .before .before), refl, zeros 512)
+solve-requires c κs = (layout (c .before .before .before .before), refl, zeros maxNodes)
 
 slice-aggregate-store-marks : tie.Need-slice-aggregate-store-marks
 slice-aggregate-store-marks c = search needs
@@ -124,7 +125,7 @@ returns-2 c =
       accepts = λ ok.
           load-written (loaded s) (s .args .session .now) (length (s .args .changes .now)) (passed (rules w)) (masks-fit a) (values-fit a) (samples-fit a)
           (w .write-sections .last .0) (w .write-sections .ensures) (v .solve .result) (v .solve .last .1 .0) (v .solve .ensures)
-          (m .store-marks .last .0) (m .store-marks .ensures) (replicate 512 0) (zeros 512) _ _ _ (c .before .report .ensures);
+          (m .store-marks .last .0) (m .store-marks .ensures) (replicate maxNodes 0) (zeros maxNodes) _ _ _ (c .before .report .ensures);
     }
 
 pub load-spec : {M : Type 1} → statement M

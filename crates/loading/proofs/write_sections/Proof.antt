@@ -6,7 +6,7 @@ use mathlib.Core.Path.{_≡_, _∙_}
 use mathlib.Core.List.{List}
 use lib.ListN.{length, set, length-set}
 use borrow.Rule.Slice.PartMut.{putMid, same-len-mid}
-use Rattle.session.specs.Limits.{invertedAt, masksAt, valuesAt, linksAt, samplesAt, edgesAt, marksAt, fixedSize}
+use Rattle.session.specs.Limits.{invertedAt, masksAt, valuesAt, linksAt, samplesAt, edgesAt, marksAt, fixedSize, maxChanges, maxEdges, maxNodes, maxStates}
 use Rattle.promises.specs.Rules.{Given, given}
 use Rattle.promises.proofs.Loads.{load-counts, load-edges}
 use Rattle.loading.proofs.Sections.{sections-written}
@@ -17,10 +17,10 @@ abbrev loaded : tie.Start → Given
 loaded s = given (s .args .masks .now) (s .args .values .now) (s .args .links .now) (s .args .inverted) (s .args .samples .now) (s .args .starts .now) (s .args .ends .now)
 
 -- the memory is long enough, and the lists are short
-bounds : (s : tie.Start) → (fixedSize ≤ length (s .args .session .now)) × (length (s .args .masks .now) ≤ 16)
+bounds : (s : tie.Start) → (fixedSize ≤ length (s .args .session .now)) × (length (s .args .masks .now) ≤ maxStates)
     × (length (s .args .values .now) ≡ length (s .args .masks .now)) × (length (s .args .links .now) ≡ length (s .args .masks .now))
-    × (length (s .args .samples .now) ≤ 512) × (length (s .args .starts .now) ≤ 2048) × (length (s .args .ends .now) ≡ length (s .args .starts .now))
-bounds s = load-counts (length (s .args .session .now)) 8192 (loaded s) (s .pre)
+    × (length (s .args .samples .now) ≤ maxNodes) × (length (s .args .starts .now) ≤ maxEdges) × (length (s .args .ends .now) ≡ length (s .args .starts .now))
+bounds s = load-counts (length (s .args .session .now)) maxChanges (loaded s) (s .pre)
 
 -- the entry, seen from after each section
 abbrev start1 : tie.After-fill-halves → tie.Start
@@ -48,34 +48,34 @@ long0 : (s : tie.Start) → length (X0 s) ≡ length (s .args .session .now)
 long0 s = simp length-set
 
 abbrev X1 : tie.After-fill-halves → List ℕ
-X1 a = putMid masksAt 16 (X0 (start1 a)) (a .fill-halves .last .0)
+X1 a = putMid masksAt maxStates (X0 (start1 a)) (a .fill-halves .last .0)
 
 long1 : (a : tie.After-fill-halves) → length (X1 a) ≡ length (start1 a .args .session .now)
-long1 a = same-len-mid masksAt 16 (X0 (start1 a)) (a .fill-halves .last .0) (a .fill-halves .kept .0) ∙ long0 (start1 a)
+long1 a = same-len-mid masksAt maxStates (X0 (start1 a)) (a .fill-halves .last .0) (a .fill-halves .kept .0) ∙ long0 (start1 a)
 
 abbrev X2 : tie.After-fill-halves2 → List ℕ
-X2 b = putMid valuesAt 16 (X1 (b .before .before .before .before)) (b .fill-halves2 .last .0)
+X2 b = putMid valuesAt maxStates (X1 (b .before .before .before .before)) (b .fill-halves2 .last .0)
 
 long2 : (b : tie.After-fill-halves2) → length (X2 b) ≡ length (start2 b .args .session .now)
-long2 b = same-len-mid valuesAt 16 (X1 (b .before .before .before .before)) (b .fill-halves2 .last .0) (b .fill-halves2 .kept .0) ∙ long1 (b .before .before .before .before)
+long2 b = same-len-mid valuesAt maxStates (X1 (b .before .before .before .before)) (b .fill-halves2 .last .0) (b .fill-halves2 .kept .0) ∙ long1 (b .before .before .before .before)
 
 abbrev X3 : tie.After-fill-words → List ℕ
-X3 d = putMid linksAt 16 (X2 (d .before .before .before .before)) (d .fill-words .last .0)
+X3 d = putMid linksAt maxStates (X2 (d .before .before .before .before)) (d .fill-words .last .0)
 
 long3 : (d : tie.After-fill-words) → length (X3 d) ≡ length (start3 d .args .session .now)
-long3 d = same-len-mid linksAt 16 (X2 (d .before .before .before .before)) (d .fill-words .last .0) (d .fill-words .kept .0) ∙ long2 (d .before .before .before .before)
+long3 d = same-len-mid linksAt maxStates (X2 (d .before .before .before .before)) (d .fill-words .last .0) (d .fill-words .kept .0) ∙ long2 (d .before .before .before .before)
 
 abbrev X4 : tie.After-fill-halves3 → List ℕ
-X4 f = putMid samplesAt 512 (X3 (f .before .before .before .before)) (f .fill-halves3 .last .0)
+X4 f = putMid samplesAt maxNodes (X3 (f .before .before .before .before)) (f .fill-halves3 .last .0)
 
 long4 : (f : tie.After-fill-halves3) → length (X4 f) ≡ length (start4 f .args .session .now)
-long4 f = same-len-mid samplesAt 512 (X3 (f .before .before .before .before)) (f .fill-halves3 .last .0) (f .fill-halves3 .kept .0) ∙ long3 (f .before .before .before .before)
+long4 f = same-len-mid samplesAt maxNodes (X3 (f .before .before .before .before)) (f .fill-halves3 .last .0) (f .fill-halves3 .kept .0) ∙ long3 (f .before .before .before .before)
 
 abbrev X5 : tie.After-fill-edges → List ℕ
-X5 g = putMid edgesAt 2048 (X4 (g .before .before .before .before)) (g .fill-edges .last .0)
+X5 g = putMid edgesAt maxEdges (X4 (g .before .before .before .before)) (g .fill-edges .last .0)
 
 long5 : (g : tie.After-fill-edges) → length (X5 g) ≡ length (start5 g .args .session .now)
-long5 g = same-len-mid edgesAt 2048 (X4 (g .before .before .before .before)) (g .fill-edges .last .0) (g .fill-edges .kept .0) ∙ long4 (g .before .before .before .before)
+long5 g = same-len-mid edgesAt maxEdges (X4 (g .before .before .before .before)) (g .fill-edges .last .0) (g .fill-edges .kept .0) ∙ long4 (g .before .before .before .before)
 
 cast-session : tie.Need-cast-session
 cast-session c = omega (arith, bounds (c .before .before .before .before .before .before .before))
@@ -174,7 +174,7 @@ part-fill-edges-end c = let a = c .before .before in omega (arith, long4 a, boun
 fill-edges-requires : tie.Need-fill-edges-requires
 fill-edges-requires c κs =
     let s = start4 (c .before .before .before) in
-    (load-edges (length (s .args .session .now)) 8192 (loaded s) (s .pre), (bounds s .6, omega (arith, bounds s)))
+    (load-edges (length (s .args .session .now)) maxChanges (loaded s) (s .pre), (bounds s .6, omega (arith, bounds s)))
 
 sub-clear : tie.Need-sub-clear
 sub-clear c = search needs
@@ -192,7 +192,7 @@ same-length : tie.Need-same-length
 same-length c =
     let z = c .before .before in
     let g = z .before .before .before .before in
-    same-len-mid marksAt 512 (X5 g) (z .clear .last .0) (z .clear .kept .0) ∙ long5 g
+    same-len-mid marksAt maxNodes (X5 g) (z .clear .last .0) (z .clear .kept .0) ∙ long5 g
 
 returns : tie.Need-returns
 returns c =

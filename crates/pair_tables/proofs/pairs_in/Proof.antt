@@ -6,9 +6,10 @@ use mathlib.Core.Path.{_≡_, ap, _∙_}
 use Rattle.pair_tables.proofs.Tabling.{pairsTo, pairs-none, row-few, pairs-more}
 use Rattle.pair_tables.proofs.pairs_in.Statement.{statement}
 use Rattle.pair_tables.proofs.pairs_in.Tie as tie
+use Rattle.session.specs.Limits.{maxStates}
 
 abbrev Inv-loop : tie.InvT-loop
-Inv-loop table states nodes count₀ v₀ count v = (v ≤ nodes) × (count ≤ v * 16) × (count ≡ pairsTo table states v)
+Inv-loop table states nodes count₀ v₀ count v = (v ≤ nodes) × (count ≤ v * maxStates) × (count ≡ pairsTo table states v)
 
 abbrev μ-loop : tie.MeasureT-loop
 μ-loop table states nodes count₀ v₀ count v = nodes - v

@@ -12,11 +12,12 @@ use Rattle.session.proofs.Admission.{matches-masked}
 use Rattle.pair_tables.proofs.Admitting.{Seen, seen-start, seen-step, seen-end, picked-le}
 use Rattle.pair_tables.proofs.put_turned.Statement.{statement}
 use Rattle.pair_tables.proofs.put_turned.Tie as tie
+use Rattle.bits.specs.Word.{setBits}
 
 abbrev Inv-loop : tie.InvT-loop
 Inv-loop samples turn mask value u table₀ bit count₀ v₀ table count v =
     (v ≤ length samples) × (count ≤ v) × (length table ≡ length table₀)
-    × ((b : Bool) → turn ≡ cond b (2 ^ 32 - 1) 0 → Seen samples b mask value u table₀ v count table)
+    × ((b : Bool) → turn ≡ cond b (2 ^ setBits - 1) 0 → Seen samples b mask value u table₀ v count table)
 
 abbrev μ-loop : tie.MeasureT-loop
 μ-loop samples turn mask value u table₀ bit count₀ v₀ table count v = length samples - v

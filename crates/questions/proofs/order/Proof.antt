@@ -14,6 +14,7 @@ use Rattle.session_parts.proofs.Parts.{held-links}
 use Rattle.promises.proofs.Passed.{question-passed}
 use Rattle.questions.proofs.order.Statement.{statement}
 use Rattle.questions.proofs.order.Tie as tie
+use Rattle.session.specs.Limits.{maxStates}
 
 question-rule-requires : tie.Need-question-rule-requires
 question-rule-requires c κs = search needs
@@ -24,7 +25,7 @@ returns c =
     let q = c .before .question-rule .ensures in
     record {
       answer = answer-refused _ _ q _ (c .if1 .taken);
-      states = ap (λ (ys : List ℕ). section 16 ys) (none-listed _ _ q _ (c .if1 .taken));
+      states = ap (λ (ys : List ℕ). section maxStates ys) (none-listed _ _ q _ (c .if1 .taken));
     }
 
 -- what the rules leave
@@ -53,7 +54,7 @@ returns-2 c =
     let q = e .before .question-rule .ensures in
     record {
       answer = answer-accepted _ _ q _ _ (e .if1 .left) (layout-facts _ h .counts .0);
-      states = c .ordered .ensures ∙ ap (λ (ys : List ℕ). section 16 ys) (ap (λ (ls : List ℕ). order (linkedBy ls)) (c .before .links-of .ensures) ∙ asked-order _ h ∙ all-listed _ _ q _ (e .if1 .left));
+      states = c .ordered .ensures ∙ ap (λ (ys : List ℕ). section maxStates ys) (ap (λ (ls : List ℕ). order (linkedBy ls)) (c .before .links-of .ensures) ∙ asked-order _ h ∙ all-listed _ _ q _ (e .if1 .left));
     }
 
 pub order-spec : {M : Type 1} → statement M

@@ -12,6 +12,8 @@ use Rattle.refinement.proofs.Settling.{refining-start, refining-turn, r
 use Rattle.refinement.proofs.Turns.{sound-wider}
 use Rattle.refinement.proofs.refine.Statement.{statement}
 use Rattle.refinement.proofs.refine.Tie as tie
+use Rattle.session.specs.Limits.{maxNodes}
+use Rattle.edge_indexes.specs.Indexes.{startsSize}
 
 abbrev Inv-loop : tie.InvT-loop
 Inv-loop links edges nodes settled tentative₀ waiting₀ callers firsts heads nexts bare left₀ v₀ tentative waiting left v =
@@ -19,7 +21,7 @@ Inv-loop links edges nodes settled tentative₀ waiting₀ callers firsts heads 
 
 abbrev μ-loop : tie.MeasureT-loop
 μ-loop links edges nodes settled tentative₀ waiting₀ callers firsts heads nexts bare left₀ v₀ tentative waiting left v =
-    513 * count (nodes * length links) (tabled nodes links edges tentative) + count 512 (waits waiting)
+    startsSize * count (nodes * length links) (tabled nodes links edges tentative) + count maxNodes (waits waiting)
 
 -- the function's entry, from the loop's head
 abbrev Head : Type 0

@@ -7,6 +7,9 @@ use Rattle.refinement.proofs.Settling.{refining-end}
 use borrow.Author.Needs.{needs}
 use Rattle.refinement.proofs.refine_indexed.Statement.{statement}
 use Rattle.refinement.proofs.refine_indexed.Tie as tie
+use Rattle.session.specs.Limits.{maxNodes}
+use Rattle.bits.specs.Word.{setBits}
+use Rattle.edge_indexes.specs.Indexes.{startsSize}
 
 slice-aggregate-index-starts : tie.Need-slice-aggregate-index-starts
 slice-aggregate-index-starts c = search needs
@@ -15,7 +18,7 @@ index-starts-requires : tie.Need-index-starts-requires
 index-starts-requires c κs =
     let s = c .before .before .before .before .before .before in
     let a = s .args in
-    ((omega (arith, s .pre .1 .0 .few-edges), s .pre .1 .0 .ascend, sound-below (a .nodes) (a .links .now) (a .edges .now) (s .pre .1 .0), refl), zeros 513)
+    ((omega (arith, s .pre .1 .0 .few-edges), s .pre .1 .0 .ascend, sound-below (a .nodes) (a .links .now) (a .edges .now) (s .pre .1 .0), refl), zeros startsSize)
 
 slice-aggregate-index : tie.Need-slice-aggregate-index
 slice-aggregate-index c = search needs
@@ -24,13 +27,13 @@ slice-aggregate-index-2 : tie.Need-slice-aggregate-index-2
 slice-aggregate-index-2 c = search needs
 
 index-requires : tie.Need-index-requires
-index-requires c κs = let s = c .before .before .before .before .before .before .before .before .before .before in ((omega (arith, s .pre .1 .0 .few-edges), refl, refl), zeros 512)
+index-requires c κs = let s = c .before .before .before .before .before .before .before .before .before .before in ((omega (arith, s .pre .1 .0 .few-edges), refl, refl), zeros maxNodes)
 
 slice-aggregate-index-callers : tie.Need-slice-aggregate-index-callers
 slice-aggregate-index-callers c = search needs
 
 index-callers-requires : tie.Need-index-callers-requires
-index-callers-requires c κs = let s = c .before .before .before .before .before .before .before .before .before .before .before .before .before .before in (omega (arith, s .pre .1 .0 .few-states), refl, zeros 32)
+index-callers-requires c κs = let s = c .before .before .before .before .before .before .before .before .before .before .before .before .before .before in (omega (arith, s .pre .1 .0 .few-states), refl, zeros setBits)
 
 slice-aggregate-refine : tie.Need-slice-aggregate-refine
 slice-aggregate-refine c = search needs

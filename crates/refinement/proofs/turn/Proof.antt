@@ -6,6 +6,7 @@ use mathlib.Core.Path.{sym, _∙_}
 use native.Mathlib.Omega.{arith}
 use Rattle.refinement.proofs.turn.Statement.{statement}
 use Rattle.refinement.proofs.turn.Tie as tie
+use Rattle.session.specs.Limits.{maxNodes}
 
 -- the places of the function's entry, from where the states that are left are known
 abbrev entry : tie.After-left-at → tie.Start
@@ -45,7 +46,7 @@ call-in-requires c κs =
     let s = entry k in
     let a = s .args in (
       (took k .take-out .ensures .0, omega (arith, s .pre .0), omega (arith, s .pre .1 .0 .few-edges), length-set (a .tentative .now) (a .v) (k .left-at .result) ∙ s .pre .0 .1),
-      (sound-below 512 (a .links .now) (a .edges .now) (s .pre .1 .0), s .pre .1 .2),
+      (sound-below maxNodes (a .links .now) (a .edges .now) (s .pre .1 .0), s .pre .1 .2),
     )
 
 same-length : tie.Need-same-length

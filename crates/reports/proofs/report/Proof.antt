@@ -1,7 +1,7 @@
 -- The list is written from the marks of the session, and the answer tells its length.
 use native.Mathlib.Omega.{arith}
 use lib.ListN.{length-take, length-drop, take, drop}
-use Rattle.session.specs.Limits.{marksAt}
+use Rattle.session.specs.Limits.{marksAt, maxNodes}
 use Rattle.session.proofs.Decoded.{Bounded, layout-limits}
 use Rattle.reports.proofs.Held.{held-few}
 use Rattle.reports.proofs.Reported.{reported}
@@ -34,12 +34,12 @@ part-write-changes-end c = omega (arith, bounded (c .before .before .before .bef
 write-changes-requires : tie.Need-write-changes-requires
 write-changes-requires c κs =
     let s = c .before .before .before .before .before .before in
-    omega (arith, bounded s, s .pre, length-take 512 (drop marksAt (s .args .session .now)), length-drop marksAt (s .args .session .now))
+    omega (arith, bounded s, s .pre, length-take maxNodes (drop marksAt (s .args .session .now)), length-drop marksAt (s .args .session .now))
 
 cast-count : tie.Need-cast-count
 cast-count c =
     let s = c .before .before .before .before .before .before .before .before in
-    omega (arith, c .before .write-changes .ensures .past, held-few (s .args .session .now) (s .pre .0) (s .args .before .now) (take 512 (drop marksAt (s .args .session .now))))
+    omega (arith, c .before .write-changes .ensures .past, held-few (s .args .session .now) (s .pre .0) (s .args .before .now) (take maxNodes (drop marksAt (s .args .session .now))))
 
 answered-requires : tie.Need-answered-requires
 answered-requires c κs = search needs

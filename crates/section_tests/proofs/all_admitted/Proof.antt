@@ -9,7 +9,7 @@ use Rattle.simulation.specs.Sets.{Set, allBelow}
 use Rattle.simulation.proofs.Sets.{all-make}
 use Rattle.bits.specs.Word.{members}
 use Rattle.bits.proofs.Gathers.{gathers}
-use Rattle.session.specs.Limits.{wordBits}
+use Rattle.session.specs.Limits.{wordBits, maxNodes}
 use Rattle.session.specs.Trigger.{matches, accepts}
 use Rattle.session.specs.Tests.{sparse}
 use Rattle.bits.proofs.Words.{zero-members}
@@ -25,7 +25,7 @@ abbrev nodes : tie.After-shared-slice-known4 → ℕ
 nodes c = length (start c .args .marks .now)
 
 abbrev zeros : List ℕ
-zeros = replicate 512 0
+zeros = replicate maxNodes 0
 
 -- the array has room for them
 room : (c : tie.After-shared-slice-known4) → nodes c ≡ length (take (nodes c) zeros)

@@ -11,6 +11,7 @@ use mathlib.Core.Path.{_∙_}
 use native.Mathlib.Omega.{arith}
 use Rattle.section_tests.proofs.all_named.Statement.{statement}
 use Rattle.section_tests.proofs.all_named.Tie as tie
+use Rattle.session.specs.Limits.{maxNodes}
 
 abbrev Inv-loop : tie.InvT-loop
 Inv-loop edges nodes count last faults₀ k₀ faults k = Folded (ending nodes edges) (length edges) faults k
@@ -59,8 +60,8 @@ loop-again c =
     let e = getD (a .edges .now) (l .k) 0 in
     let E : Set = ending (a .nodes) (a .edges .now) in
     ⊎-elim
-    (λ w. rw (w .1) (fold-fault E n (l .k) (omega arith) (le-ltb (e % 512) (a .nodes) (omega (arith, w .0 .taken)))))
-    (λ w. rw (w .1) (fold-pass E n (l .faults) (l .k) (l .inv) (omega arith) (lt-ltb (e % 512) (a .nodes) (omega (arith, w .0 .left)))))
+    (λ w. rw (w .1) (fold-fault E n (l .k) (omega arith) (le-ltb (e % maxNodes) (a .nodes) (omega (arith, w .0 .taken)))))
+    (λ w. rw (w .1) (fold-pass E n (l .faults) (l .k) (l .inv) (omega arith) (lt-ltb (e % maxNodes) (a .nodes) (omega (arith, w .0 .left)))))
     (c .if3 .came)
 
 returns-3 : tie.Need-returns-3 Inv-loop μ-loop

@@ -8,6 +8,7 @@ use lib.Seq.{length-take-le, take-all}
 use Rattle.session.proofs.Tables.{fits-gathered}
 use Rattle.section_tests.proofs.section_fits.Statement.{statement}
 use Rattle.section_tests.proofs.section_fits.Tie as tie
+use Rattle.bits.specs.Word.{setBits}
 
 slice-aggregate-gathered : tie.Need-slice-aggregate-gathered
 slice-aggregate-gathered c = let s = c .before .before in sym (length-take-le (s .args .used) (s .args .place .now) (s .pre .0))
@@ -43,7 +44,7 @@ returns c =
     let rest : take (length xs - used) (drop used xs) ≡ drop used xs =
     take-all (length xs - used) (drop used xs) (omega (arith, length-drop used xs)) in
     c .unions-fit .ensures
-    ∙ fits-gathered 32 (s .args .k) used (inside .result) (unused .result) xs (s .pre .0) (search needs) (inside .ensures)
+    ∙ fits-gathered setBits (s .args .k) used (inside .result) (unused .result) xs (s .pre .0) (search needs) (inside .ensures)
     (rw rest at (unused .ensures))
 
 pub section-fits-spec : {M : Type 1} → statement M

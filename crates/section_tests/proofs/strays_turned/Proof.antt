@@ -7,7 +7,7 @@ use mathlib.Core.Bool.{Bool, true, false, not, _&&_, and-true, and-false, cond}
 use lib.Bits.{bitAnd}
 use lib.Dec.{eqb}
 use lib.ListN.{length, getD}
-use Rattle.bits.specs.Word.{members}
+use Rattle.bits.specs.Word.{members, halfBits}
 use Rattle.bits.proofs.Words.{zero-members}
 use Rattle.bits.proofs.Gathers.{gathers, gather-none, gather-more}
 use Rattle.session.specs.Limits.{wordBits}
@@ -19,7 +19,7 @@ use Rattle.section_tests.proofs.strays_turned.Tie as tie
 
 abbrev Inv-loop : tie.InvT-loop
 Inv-loop samples marks turn mask value all₀ v₀ all v =
-    (v ≤ length marks) × ((b : Bool) → turn ≡ cond b (2 ^ 16 - 1) 0 → members all ≡ gathers v (stray samples marks (matches wordBits b mask value)))
+    (v ≤ length marks) × ((b : Bool) → turn ≡ cond b (2 ^ halfBits - 1) 0 → members all ≡ gathers v (stray samples marks (matches wordBits b mask value)))
 
 abbrev μ-loop : tie.MeasureT-loop
 μ-loop samples marks turn mask value all₀ v₀ all v = length marks - v

@@ -11,6 +11,7 @@ use Rattle.session.proofs.Tables.{below-take}
 use Rattle.sections.proofs.Fills.{Filled, fill-start, fill-step, fill-end}
 use Rattle.sections.proofs.copy_edges.Statement.{statement}
 use Rattle.sections.proofs.copy_edges.Tie as tie
+use Rattle.session.specs.Limits.{maxNodes}
 
 abbrev number : List ℕ → List ℕ → ℕ → ℕ
 number starts ends j = edgeNumber (getD starts j 0) (getD ends j 0)
@@ -23,12 +24,12 @@ abbrev μ-loop : tie.MeasureT-loop
 
 -- both nodes of an edge
 small : (c : tie.In-loop Inv-loop μ-loop)
-    → (getD (c .before .before .args .starts .now) (c .before .loop .i) 0 < 512) × (getD (c .before .before .args .ends .now) (c .before .loop .i) 0 < 512)
+    → (getD (c .before .before .args .starts .now) (c .before .loop .i) 0 < maxNodes) × (getD (c .before .before .args .ends .now) (c .before .loop .i) 0 < maxNodes)
 small c =
     let s = c .before .before in
     let a = s .args in (
-      below-take 512 (a .starts .now) (s .pre .0 .0) (c .before .loop .i) (omega arith),
-      below-take 512 (a .ends .now) (s .pre .0 .1) (c .before .loop .i) (omega arith),
+      below-take maxNodes (a .starts .now) (s .pre .0 .0) (c .before .loop .i) (omega arith),
+      below-take maxNodes (a .ends .now) (s .pre .0 .1) (c .before .loop .i) (omega arith),
     )
 
 loop-holds : tie.Need-loop-holds Inv-loop μ-loop

@@ -9,6 +9,7 @@ use Rattle.session.proofs.Tables.{table-of, below-take}
 use Rattle.sections.proofs.Fills.{Filled, fill-start, fill-step, fill-end}
 use Rattle.sections.proofs.narrow.Statement.{statement}
 use Rattle.sections.proofs.narrow.Tie as tie
+use Rattle.session.specs.Limits.{wordBits}
 
 abbrev Inv-loop : tie.InvT-loop
 Inv-loop place₀ source i₀ place i = Filled (λ j. getD source j 0) place₀ place i
@@ -28,7 +29,7 @@ shared-slice-read-place c = search needs
 cast-place : tie.Need-cast-place Inv-loop μ-loop
 cast-place c =
     let s = c .before .before .before in
-    omega (arith, below-take (2 ^ 16) (s .args .source .now) (s .pre .1) (c .before .before .loop .i) (omega arith))
+    omega (arith, below-take (2 ^ wordBits) (s .args .source .now) (s .pre .1) (c .before .before .loop .i) (omega arith))
 
 mul-place-2 : tie.Need-mul-place-2 Inv-loop μ-loop
 mul-place-2 c = search needs

@@ -14,6 +14,7 @@ use mathlib.Core.Path.{_≡_, refl, sym, ap, subst, _∙_}
 use native.Mathlib.Omega.{arith}
 use Rattle.trials.proofs.alone.Statement.{statement}
 use Rattle.trials.proofs.alone.Tie as tie
+use Rattle.session.specs.Limits.{maxNodes}
 
 abbrev Inv-loop : tie.InvT-loop
 Inv-loop session start word edges turned k₀ k = (k ≤ length edges) × ((h : inLayout session ≡ true) → aloneTo session h start word k ≡ true)
@@ -56,8 +57,8 @@ returns c =
     let k = h .loop .k in
     let is = h .before .before .edges-of .ensures in
     alone-found (a .session .now) (s .pre) (a .start) (a .word) k (subst (λ (es : List ℕ). k < length es) is (c .before .before .before .before .loop-test .taken))
-    (subst (λ (es : List ℕ). getD es k 0 % 512 ≡ a .start) is (c .before .before .if1 .taken))
-    (subst (λ (es : List ℕ). freshAmong (a .session .now) (a .word) (getD es k 0 / 512) ≡ true) is (sym (c .before .fresh-among .ensures) ∙ c .if2 .taken))
+    (subst (λ (es : List ℕ). getD es k 0 % maxNodes ≡ a .start) is (c .before .before .if1 .taken))
+    (subst (λ (es : List ℕ). freshAmong (a .session .now) (a .word) (getD es k 0 / maxNodes) ≡ true) is (sym (c .before .fresh-among .ensures) ∙ c .if2 .taken))
 
 add-k : tie.Need-add-k Inv-loop μ-loop
 add-k c = search needs
@@ -77,8 +78,8 @@ loop-again c =
           alone-more (a .session .now) i (a .start) (a .word) k (h .loop .inv .1 i)
           (λ at-end.
           ⊎-elim
-          (λ w. subst (λ (es : List ℕ). freshAmong (a .session .now) (a .word) (getD es k 0 / 512) ≡ false) is (sym (w .1 .ensures) ∙ w .2 .left))
-          (λ w. absurd (w .left (subst (λ (es : List ℕ). getD es k 0 % 512 ≡ a .start) (sym is) at-end)))
+          (λ w. subst (λ (es : List ℕ). freshAmong (a .session .now) (a .word) (getD es k 0 / maxNodes) ≡ false) is (sym (w .1 .ensures) ∙ w .2 .left))
+          (λ w. absurd (w .left (subst (λ (es : List ℕ). getD es k 0 % maxNodes ≡ a .start) (sym is) at-end)))
           (c .if1 .came)),
     )
 

@@ -7,7 +7,7 @@ use borrow.Author.Tests.{ne-eqb}
 use Rattle.simulation.proofs.Sets.{or-r, not-make}
 use Rattle.session.specs.Layout.{triggerOf}
 use Rattle.session.proofs.Decoded.{Bounded, layout-limits, layout-facts}
-use Rattle.worklist.specs.Waiting.{waits}
+use Rattle.worklist.specs.Waiting.{waits, waitingWords}
 use Rattle.pair_tables.proofs.Zeros.{zeros}
 use Rattle.refinement.proofs.Turns.{sound-below}
 use Rattle.refinement.proofs.Settling.{refining-end}
@@ -17,6 +17,8 @@ use Rattle.editing.proofs.Refining.{trials-refined}
 use borrow.Author.Needs.{needs}
 use Rattle.trials.proofs.begin.Statement.{statement}
 use Rattle.trials.proofs.begin.Tie as tie
+use Rattle.bits.specs.Word.{setBits}
+use Rattle.edge_indexes.specs.Indexes.{startsSize}
 
 abbrev start : tie.After-shared-slice-known4 → tie.Start
 start c = c .before .before .before .before .before
@@ -47,7 +49,7 @@ starts-for-requires c κs =
     let s = start (c .before .before .before .before .before .before) in
     let xs = s .args .session .now in
     let sound = held-sound xs (s .pre .0 .0) (triggerOf xs .links) _ refl (c .before .edges-of .ensures) in
-    ((omega (arith, sound .few-edges), sound .ascend, sound-below _ _ _ sound, refl), zeros 513)
+    ((omega (arith, sound .few-edges), sound .ascend, sound-below _ _ _ sound, refl), zeros startsSize)
 
 links-of-requires : tie.Need-links-of-requires
 links-of-requires c κs = search needs
@@ -59,7 +61,7 @@ index-callers-requires : tie.Need-index-callers-requires
 index-callers-requires c κs =
     let s = start (c .before .before .before .before .before .before .before .before .before .before) in
     let f = layout-facts (s .args .session .now) (s .pre .0 .0) .trigger in
-    (rw (c .before .links-of .ensures) (omega (arith, f .links, f .few)), refl, zeros 32)
+    (rw (c .before .links-of .ensures) (omega (arith, f .links, f .few)), refl, zeros setBits)
 
 marks-of-requires : tie.Need-marks-of-requires
 marks-of-requires c κs = search needs
@@ -103,7 +105,7 @@ returns c =
     trials-refined xs (s .pre .0 .0) _ _ (c .before .before .before .before .before .before .before .before .before .before .before .before .links-of .ensures) (c .before .before .before .before .before .before .before .before .before .before .before .before .before .before .before .before .edges-of .ensures) _ _ _ _
     (refining-end _ _ _ sound _ _ _ _ _ _ (r .0) (r .1 (λ none. omega (arith, none, s .pre .1 .heads-long))) (λ u v e. omega (arith, few, s .pre .0 .2 u v e .1)) (s .pre .0 .1))
     (s .pre .0 .1) (s .pre .0 .2) (c .before .before .before .before .before .before .before .before .marks-of .ensures)
-    (λ v some. c .before .before .before .before .before .before .before .before .before .before .before .before .before .before .before .before .before .before .call-all .ensures .1 v ∙ or-r (waits (replicate 16 0) v) (not-make (ne-eqb (getD (s .args .table .now) v 0) 0 some)))
+    (λ v some. c .before .before .before .before .before .before .before .before .before .before .before .before .before .before .before .before .before .before .call-all .ensures .1 v ∙ or-r (waits (replicate waitingWords 0) v) (not-make (ne-eqb (getD (s .args .table .now) v 0) 0 some)))
 
 pub begin-spec : {M : Type 1} → statement M
 begin-spec =

@@ -9,6 +9,8 @@ use Rattle.refinement.proofs.Systems.{held-sound}
 use Rattle.trials.proofs.Trying.{seeded, seeds-fit, trial-held}
 use Rattle.trials.proofs.try_pairs.Statement.{statement}
 use Rattle.trials.proofs.try_pairs.Tie as tie
+use Rattle.session.specs.Limits.{maxNodes}
+use Rattle.worklist.specs.Waiting.{waitingWords}
 
 abbrev start : tie.After-shared-slice-known4 → tie.Start
 start c = c .before .before .before .before .before
@@ -29,7 +31,7 @@ slice-aggregate-fresh-pairs : tie.Need-slice-aggregate-fresh-pairs
 slice-aggregate-fresh-pairs c = search needs
 
 fresh-pairs-requires : tie.Need-fresh-pairs-requires
-fresh-pairs-requires c κs = (start (c .before) .pre .0 .0, refl, zeros 512)
+fresh-pairs-requires c κs = (start (c .before) .pre .0 .0, refl, zeros maxNodes)
 
 slice-aggregate-put-in : tie.Need-slice-aggregate-put-in
 slice-aggregate-put-in c = search needs
@@ -69,7 +71,7 @@ grow-requires c κs =
               let i = fresh .inside u v e in
               (rw (c .before .before .before .before .links-of .ensures) (omega (arith, i .0, f .trigger .links)), omega (arith, i .1, f .counts .1)),
           seeds-fit (a .session .now) (s .pre .0 .0) (a .start) (s .pre .1 .1 .0) (a .seeds) (s .pre .0 .1) (s .pre .1 .1 .1) (a .table .now) (s .pre .0 .2) (s .pre .0 .3)
-              (c .before .before .before .before .before .before .before .before .before .fresh-pairs .last .1 .0) (replicate 16 0) (c .before .before .before .before .before .before .put-in .last .0) fresh (c .before .before .before .before .before .before .put-in .ensures .1),
+              (c .before .before .before .before .before .before .before .before .before .fresh-pairs .last .1 .0) (replicate waitingWords 0) (c .before .before .before .before .before .before .put-in .last .0) fresh (c .before .before .before .before .before .before .put-in .ensures .1),
         ),
       ),
     )

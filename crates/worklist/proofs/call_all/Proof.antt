@@ -4,16 +4,17 @@ use borrow.Author.Needs.{needs}
 use native.Mathlib.Omega.{arith}
 use mathlib.Core.Path.{_≡_, ap, _∙_}
 use lib.ListN.{length, length-set}
-use Rattle.worklist.specs.Waiting.{waits}
+use Rattle.worklist.specs.Waiting.{waits, waitingWords}
 use Rattle.worklist.proofs.Occupied.{called, called-none, called-step, called-all}
 use Rattle.worklist.proofs.call_all.Statement.{statement}
 use Rattle.worklist.proofs.call_all.Tie as tie
+use Rattle.bits.specs.Word.{setBits}
 
 abbrev Inv-loop : tie.InvT-loop
-Inv-loop table waiting₀ i₀ waiting i = (i ≤ 16) × (length waiting ≡ 16) × ((v : ℕ) → waits waiting v ≡ called waiting₀ table i v)
+Inv-loop table waiting₀ i₀ waiting i = (i ≤ waitingWords) × (length waiting ≡ waitingWords) × ((v : ℕ) → waits waiting v ≡ called waiting₀ table i v)
 
 abbrev μ-loop : tie.MeasureT-loop
-μ-loop table waiting₀ i₀ waiting i = 16 - i
+μ-loop table waiting₀ i₀ waiting i = waitingWords - i
 
 loop-holds : tie.Need-loop-holds Inv-loop μ-loop
 loop-holds c = let s = c .before .before in (search needs, s .pre .1, called-none (s .args .waiting .now) (s .args .table .now))
@@ -66,7 +67,7 @@ loop-again c =
     let l = c .before .before .before .before .before .loop in (
       search needs,
       length-set (l .waiting) (l .i) (c .united .result) ∙ l .inv .1,
-      called-step (a .waiting .now) (a .table .now) (l .i) (l .waiting) (l .inv .2) (l .i * 32 + 32 - l .i * 32) (c .before .held-among .result) (c .united .result)
+      called-step (a .waiting .now) (a .table .now) (l .i) (l .waiting) (l .inv .2) (l .i * setBits + setBits - l .i * setBits) (c .before .held-among .result) (c .united .result)
           (omega arith) (omega (arith, l .inv .1)) (c .before .held-among .ensures) (c .united .ensures),
     )
 
@@ -78,7 +79,7 @@ returns c =
     let s = c .before .before .before .before in
     let a = s .args in
     let l = c .before .loop in
-    let end : l .i ≡ 16 = omega arith in (
+    let end : l .i ≡ waitingWords = omega arith in (
       l .inv .1,
       λ v. l .inv .2 v ∙ ap (λ (i : ℕ). called (a .waiting .now) (a .table .now) i v) end ∙ called-all (a .waiting .now) (a .table .now) (s .pre .0) v,
     )

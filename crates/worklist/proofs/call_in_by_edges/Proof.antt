@@ -2,7 +2,7 @@
 use Prim.Native.Nat.{ℕ, _-_, _≤_}
 use Rattle.bits.specs.Word.{overlaps}
 use Rattle.worklist.proofs.CalledIn.{leadsTo, leads-none, leads-more, leads-all}
-use Rattle.worklist.specs.Waiting.{waits}
+use Rattle.worklist.specs.Waiting.{waits, waitingWords}
 use Rattle.session.proofs.Tables.{below-take}
 use Rattle.simulation.specs.Sets.{Set}
 use borrow.Author.Needs.{needs}
@@ -12,9 +12,10 @@ use mathlib.Core.Path.{_≡_, ap, fun-ext, _∙_}
 use native.Mathlib.Omega.{arith}
 use Rattle.worklist.proofs.call_in_by_edges.Statement.{statement}
 use Rattle.worklist.proofs.call_in_by_edges.Tie as tie
+use Rattle.session.specs.Limits.{edgeNumbers}
 
 abbrev Inv-loop : tie.InvT-loop
-Inv-loop waiting₀ edges node table word k₀ waiting k = (k ≤ length edges) × (length waiting ≡ 16) × (waits waiting ≡ (λ w. waits waiting₀ w || (leadsTo edges (λ x. overlaps (getD table x 0) word) node k w && overlaps (getD table w 0) word)))
+Inv-loop waiting₀ edges node table word k₀ waiting k = (k ≤ length edges) × (length waiting ≡ waitingWords) × (waits waiting ≡ (λ w. waits waiting₀ w || (leadsTo edges (λ x. overlaps (getD table x 0) word) node k w && overlaps (getD table w 0) word)))
 
 abbrev μ-loop : tie.MeasureT-loop
 μ-loop waiting₀ edges node table word k₀ waiting k = length edges - k
@@ -32,7 +33,7 @@ call-one-requires : tie.Need-call-one-requires Inv-loop μ-loop
 call-one-requires c κs =
     let h = c .before .before .before in
     let s = h .before .before .before .before in
-    (h .loop .inv .1, below-take 262144 (s .args .edges .now) (s .pre .1) (h .loop .k) (c .before .before .loop-test .taken), s .pre .0 .3)
+    (h .loop .inv .1, below-take edgeNumbers (s .args .edges .now) (s .pre .1) (h .loop .k) (c .before .before .loop-test .taken), s .pre .0 .3)
 
 add-k : tie.Need-add-k Inv-loop μ-loop
 add-k c = search needs

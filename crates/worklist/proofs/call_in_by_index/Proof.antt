@@ -13,9 +13,11 @@ use mathlib.Core.Path.{_≡_, sym, ap, subst, _∙_}
 use native.Mathlib.Omega.{arith}
 use Rattle.worklist.proofs.call_in_by_index.Statement.{statement}
 use Rattle.worklist.proofs.call_in_by_index.Tie as tie
+use Rattle.session.specs.Limits.{edgeNumbers}
+use Rattle.worklist.specs.Waiting.{waitingWords}
 
 abbrev Inv-loop : tie.InvT-loop
-Inv-loop waiting₀ edges heads nexts node table word next₀ waiting next = (length waiting ≡ 16) × Calling edges (λ w. overlaps (getD table w 0) word) node waiting₀ waiting next
+Inv-loop waiting₀ edges heads nexts node table word next₀ waiting next = (length waiting ≡ waitingWords) × Calling edges (λ w. overlaps (getD table w 0) word) node waiting₀ waiting next
 
 abbrev μ-loop : tie.MeasureT-loop
 μ-loop waiting₀ edges heads nexts node table word next₀ waiting next = next
@@ -50,10 +52,10 @@ cast-start : tie.Need-cast-start Inv-loop μ-loop
 cast-start c = omega (arith, c .shared-slice-known6 .given (c .before .before .loop .next - 1))
 
 mul-meet : tie.Need-mul-meet Inv-loop μ-loop
-mul-meet c = let h = c .before .before in let s = startOf h in omega (arith, below-take 262144 (s .args .edges .now) (s .pre .1 .0) (h .loop .next - 1) (omega arith))
+mul-meet c = let h = c .before .before in let s = startOf h in omega (arith, below-take edgeNumbers (s .args .edges .now) (s .pre .1 .0) (h .loop .next - 1) (omega arith))
 
 shared-slice-read-meet : tie.Need-shared-slice-read-meet Inv-loop μ-loop
-shared-slice-read-meet c = let h = c .before .before .before in let s = startOf h in omega (arith, s .pre .0 .3, below-take 262144 (s .args .edges .now) (s .pre .1 .0) (h .loop .next - 1) (omega arith))
+shared-slice-read-meet c = let h = c .before .before .before in let s = startOf h in omega (arith, s .pre .0 .3, below-take edgeNumbers (s .args .edges .now) (s .pre .1 .0) (h .loop .next - 1) (omega arith))
 
 meet-requires : tie.Need-meet-requires Inv-loop μ-loop
 meet-requires c κs = search needs
@@ -62,7 +64,7 @@ put-in-requires : tie.Need-put-in-requires Inv-loop μ-loop
 put-in-requires c κs =
     let h = c .before .before .before .before .before .before in
     let s = startOf h in
-    (search needs, omega (arith, below-take 262144 (s .args .edges .now) (s .pre .1 .0) (h .loop .next - 1) (omega arith)))
+    (search needs, omega (arith, below-take edgeNumbers (s .args .edges .now) (s .pre .1 .0) (h .loop .next - 1) (omega arith)))
 
 mul-next-2 : tie.Need-mul-next-2 Inv-loop μ-loop
 mul-next-2 c = search needs

@@ -4,7 +4,7 @@ use borrow.Author.Needs.{needs}
 use native.Mathlib.Omega.{arith}
 use mathlib.Core.Path.{_≡_, refl, ap, fun-ext, _∙_}
 use Rattle.simulation.specs.Sets.{none, Set}
-use Rattle.bits.specs.Word.{members}
+use Rattle.bits.specs.Word.{members, setBits}
 use Rattle.bits.proofs.Words.{zero-members}
 use Rattle.simulation.proofs.Gains.{gained, gained-none, gained-all}
 use Rattle.worklist.proofs.Occupied.{occupied, none-past, held-step}
@@ -12,10 +12,10 @@ use Rattle.worklist.proofs.held_among.Statement.{statement}
 use Rattle.worklist.proofs.held_among.Tie as tie
 
 abbrev Inv-loop : tie.InvT-loop
-Inv-loop part all₀ k₀ all k = (k ≤ 32) × (members all ≡ gained none (occupied part) k)
+Inv-loop part all₀ k₀ all k = (k ≤ setBits) × (members all ≡ gained none (occupied part) k)
 
 abbrev μ-loop : tie.MeasureT-loop
-μ-loop part all₀ k₀ all k = 32 - k
+μ-loop part all₀ k₀ all k = setBits - k
 
 loop-holds : tie.Need-loop-holds Inv-loop μ-loop
 loop-holds c = (search needs, fun-ext zero-members ∙ gained-none none (occupied (c .before .args .part .now)))
@@ -55,10 +55,10 @@ returns c =
     let s = c .before .before .before in
     let l = c .before .loop in
     let P : Set = occupied (s .args .part .now) in
-    let end : l .k ≡ 32 = omega (arith, s .pre) in
+    let end : l .k ≡ setBits = omega (arith, s .pre) in
     λ k.
     ap (λ (X : Set). X k) (l .inv .1 ∙ ap (gained none P) end)
-    ∙ gained-all none P 32 (λ w h. none-past (s .args .part .now) w (omega (arith, s .pre))) k
+    ∙ gained-all none P setBits (λ w h. none-past (s .args .part .now) w (omega (arith, s .pre))) k
 
 pub held-among-spec : {M : Type 1} → statement M
 held-among-spec =

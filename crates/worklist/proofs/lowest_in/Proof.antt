@@ -6,12 +6,14 @@ use mathlib.Core.Path.{sym}
 use Rattle.worklist.proofs.Waits.{Idle, idle-more, waits-lowest, waits-none}
 use Rattle.worklist.proofs.lowest_in.Statement.{statement}
 use Rattle.worklist.proofs.lowest_in.Tie as tie
+use Rattle.bits.specs.Word.{setBits}
+use Rattle.worklist.specs.Waiting.{waitingWords}
 
 abbrev Inv-loop : tie.InvT-loop
-Inv-loop waiting i₀ i = (i ≤ 16) × Idle waiting (i * 32)
+Inv-loop waiting i₀ i = (i ≤ waitingWords) × Idle waiting (i * setBits)
 
 abbrev μ-loop : tie.MeasureT-loop
-μ-loop waiting i₀ i = 16 - i
+μ-loop waiting i₀ i = waitingWords - i
 
 loop-holds : tie.Need-loop-holds Inv-loop μ-loop
 loop-holds c = (search needs, λ k l. absurd (omega arith))
