@@ -1,16 +1,16 @@
 -- What a comparison of words says of their members: no member, a subset, the same bits under a mask.
 use Prim.Native.Nat.{ℕ, _-_, _^_, _%_, _<_, _≤_}
 use native.Mathlib.Omega.{arith}
-use native.Mathlib.Nat.{lt-of-le-of-lt, mod-lt, mod-eq-of-lt}
+use native.Mathlib.Nat.{lt-of-le-of-lt, lt-of-lt-of-le, mod-lt, mod-eq-of-lt}
 use mathlib.Core.Path.{_≡_, refl, sym, ap, ap₂, subst, fun-ext, _∙_}
 use mathlib.Core.Bool.{Bool, true, false, not, _&&_, _||_, Bool·beq, Bool·not-not, cond, and-false}
 use lib.Dec.{ltb, eqb}
-use lib.Pow.{pow-pos}
+use lib.Pow.{pow-pos, pow-mono}
 use lib.Bits.{bitAnd, bitXor, and-le-l, and-le-r, and-mask}
 use borrow.Author.Tests.{ltb-true, lt-ltb, eqb-true, eq-eqb}
 use Rattle.simulation.specs.Sets.{Set, anyBelow, allBelow}
 use Rattle.simulation.proofs.Sets.{same, implies-make, implies-take, all-make, all-take, not-any}
-use Rattle.bits.specs.Word.{bit, members, within, overlaps, setBits}
+use Rattle.bits.specs.Word.{bit, members, within, meets}
 use Rattle.bits.proofs.Words.{bit-member, zero-members, same-below, and-members, xor-members}
 
 beq-same : (p : Bool) → Bool·beq p p ≡ true
@@ -54,11 +54,15 @@ empty-any k w h = zero-all k w (λ i. not (members w i)) h (λ i. refl) ∙ sym 
 
 -- ---- a common member: a & b is not zero
 
-pub overlaps-test : (a b : ℕ) → a < 2 ^ setBits → not (eqb (bitAnd a b) 0) ≡ overlaps a b
-overlaps-test a b h =
-    ap not (empty-any setBits (bitAnd a b) (lt-of-le-of-lt (and-le-l a b) h))
-    ∙ Bool·not-not (anyBelow setBits (members (bitAnd a b)))
-    ∙ ap (anyBelow setBits) (fun-ext (λ i. and-members a b i))
+pub meets-test : (k a b : ℕ) → a < 2 ^ k → not (eqb (bitAnd a b) 0) ≡ meets k a b
+meets-test k a b h =
+    ap not (empty-any k (bitAnd a b) (lt-of-le-of-lt (and-le-l a b) h))
+    ∙ Bool·not-not (anyBelow k (members (bitAnd a b)))
+    ∙ ap (anyBelow k) (fun-ext (λ i. and-members a b i))
+
+-- a wider range has no more of a word of k bits in common with another
+pub meets-wider : (k j a b : ℕ) → a < 2 ^ k → k ≤ j → meets j a b ≡ meets k a b
+meets-wider k j a b h l = sym (meets-test j a b (lt-of-lt-of-le h (pow-mono l))) ∙ meets-test k a b h
 
 -- ---- a subset: a & b is a
 

@@ -1,13 +1,13 @@
--- The laws of a word as the set of its members: bounds, equality, operations, and the word of a set.
-use Prim.Native.Nat.{ℕ, zero, suc, _+_, _-_, _^_, _≤_, _<_, zero-le, min, max}
+-- The laws of a word as the set of its members: bounds, equality, operations, the word of a set, and a part of a word.
+use Prim.Native.Nat.{ℕ, zero, suc, _+_, _-_, _/_, _%_, _^_, _≤_, _<_, zero-le, min, max}
 use native.Mathlib.Nat.{pow-suc, zero-add, sub-zero, one-mul, le-refl, lt-of-lt-of-le}
 use native.Mathlib.Omega.{arith}
 use mathlib.Core.Path.{_≡_, refl, sym, ap, ap₂, subst, fun-ext, _∙_}
 use mathlib.Core.Logic.{⊎-elim}
 use mathlib.Core.Bool.{Bool, true, false, not, _&&_, _||_, Bool·beq, cond, and-true, and-false, or-false}
 use lib.Dec.{ltb, eqb}
-use lib.Pow.{pow-pos, pow-mono, pow-lt, ones-sub-lt}
-use lib.Bits.{bitAnd, bitOr, bitXor, differ, or-shifted}
+use lib.Pow.{pow-pos, pow-mono, pow-lt, ones-sub-lt, shr-shr}
+use lib.Bits.{bitAnd, bitOr, bitXor, differ, or-shifted, and-mask}
 use borrow.Author.Tests.{eqb-true, eqb-false, eq-eqb, ltb-true, ltb-false, lt-ltb, le-ltb}
 use Rattle.simulation.specs.Sets.{Set, In, union, minus, also, without}
 use Rattle.simulation.proofs.Sets.{clash, split, same}
@@ -247,3 +247,15 @@ members-word k w h = whole k w (members-below k w h)
 
 pub below-members : (k w : ℕ) → ((i : ℕ) → In (members w) i → i < k) → w < 2 ^ k
 below-members k w h = subst (λ (x : ℕ). x < 2 ^ k) (whole k w h) (word-below k (members w))
+
+-- ---- a part of a word: its bits from j on, and k of these
+
+pub shifted-members : (j w i : ℕ) → members (w / 2 ^ j) i ≡ members w (j + i)
+shifted-members j w i = ap (λ (x : ℕ). eqb (x % 2) 1) (shr-shr w j i)
+
+pub part-members : (k j w i : ℕ) → i < k → members (w / 2 ^ j % 2 ^ k) i ≡ members w (j + i)
+part-members k j w i l =
+    ap (λ (x : ℕ). members x i) (sym (and-mask (w / 2 ^ j) k))
+    ∙ and-members (w / 2 ^ j) (2 ^ k - 1) i
+    ∙ ap (λ (X : Set). members (w / 2 ^ j) i && X i) (full-members k)
+    ∙ rw (lt-ltb i k l, and-true) (shifted-members j w i)

@@ -12,13 +12,13 @@ use Rattle.listing.specs.Order as walk
 use Rattle.promises.specs.Standing.{stands, fires, trialSet}
 use Rattle.promises.specs.Rules.{verdict}
 use Rattle.promises.specs.Model.{step}
-use Rattle.cases.specs.Cases.{Fact, Every, none, _and_, cases, session, alone, nowhere, loop, ring, spare, unmasked, half, hunted, turned, blank, blankRing, otherHalf, linksBack, ringAway, chain}
+use Rattle.cases.specs.Cases.{Fact, Every, none, _and_, cases, session, alone, nowhere, loop, ring, spare, unmasked, half, hunted, turned, blank, blankRing, otherHalf, linksBack, ringAway, chain, toTheLast, seventeen, thirtyTwo}
 use Rattle.cases.proofs.Predicted.{Right, is-right, predicted, loaded, every}
 use Rattle.cases.proofs.Full.{right-full}
 
 -- each row but the one of 2,048 edges is computed
 right : Every Right cases
-unfolding cases session alone nowhere loop ring spare unmasked half hunted turned blank blankRing otherHalf linksBack ringAway chain predicted loaded verdict step table below insert remove joins elem edge linked
+unfolding cases session alone nowhere loop ring spare unmasked half hunted turned blank blankRing otherHalf linksBack ringAway chain toTheLast predicted loaded verdict step table below insert remove joins elem edge linked
     admits accepts matches agrees reached fires stands best greatest supported shrunk down anyBelow allBelow count changes joinTo trialSet closure grown up reaches
     walk.order walk.visit walk.fold
 right =
@@ -39,6 +39,8 @@ right =
     and is-right linksBack refl refl
     and is-right ringAway refl refl
     and is-right chain refl refl
+    and is-right seventeen refl refl
+    and is-right thirtyTwo refl refl
     and none
 
 -- every row: each run of it that keeps the promises tells what the row says

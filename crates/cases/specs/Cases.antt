@@ -1,11 +1,13 @@
 -- 01, "The marked cases are gathered as rows of one list with one proved fact over all rows": the rows, those of 02 with them, and the fact. It is proved in proofs/Worked.
-use Prim.Native.Nat.{ℕ, _/_, _%_, _≤_}
+use Prim.Native.Nat.{ℕ, _+_, _-_, _/_, _%_, _^_, _≤_}
 use mathlib.Core.Path.{_≡_}
-use mathlib.Core.Bool.{Bool, true, false}
+use mathlib.Core.Bool.{Bool, true, false, cond}
 use mathlib.Core.List.{List, [], _∷_}
+use lib.Dec.{eqb}
 use lib.IntN.{ℤ, pos, negℤ}
 use lib.ListN.{length, take}
-use Rattle.session.specs.Limits.{maxNodes, maxEdges, maxChanges, fixedSize}
+use Rattle.bits.specs.Word.{halfBits}
+use Rattle.session.specs.Limits.{maxStates, maxNodes, maxEdges, maxChanges, fixedSize}
 use Rattle.session.specs.Layout.{table}
 use Rattle.promises.specs.declared.Answer.{Answer}
 use Rattle.promises.specs.declared.Standing.{Standing}
@@ -237,6 +239,29 @@ chain =
     (firing ∷ edit insertion 1 2 ∷ firing ∷ [])
     (report false 3 (pos 131 ∷ []) ∷ says false ∷ report true 2 (pos 1 ∷ pos 66 ∷ []) ∷ says true ∷ [])
 
+-- 02, Job 6: n states, and State One linked to the last of them, whose marks and number tell whether the upper half of a set is kept
+unfoldable pub toTheLast : ℕ → Case
+toTheLast n =
+    row
+    (given (table n (λ u. 0xFFFF)) (table n (λ u. cond (eqb u 0) 1 (cond (eqb u (n - 1)) 2 3))) (table n (λ u. cond (eqb u 0) (2 ^ (n - 1)) 0)) 0
+    (1 ∷ 2 ∷ [])
+    []
+    [])
+    (standing n 1 ∷ edit insertion 0 1 ∷ edit deletion 0 1 ∷ order ∷ [])
+    (report false 2 (pos (64 + n) ∷ [])
+    ∷ says true
+    ∷ report true 1 (pos 1 ∷ [])
+    ∷ report false 1 (negℤ (pos 1) ∷ [])
+    ∷ lists (1 ∷ n ∷ table (n - 2) (λ i. i + 2))
+    ∷ [])
+
+-- the first number of states that a half word has no bit for, and the last
+abbrev pub seventeen : Case
+seventeen = toTheLast (halfBits + 1)
+
+abbrev pub thirtyTwo : Case
+thirtyTwo = toTheLast maxStates
+
 -- the session and the cases that 01 marks, and those of the requests
 unfoldable pub cases : List Case
-cases = session ∷ alone ∷ nowhere ∷ loop ∷ ring ∷ spare ∷ unmasked ∷ full ∷ half ∷ hunted ∷ turned ∷ blank ∷ blankRing ∷ otherHalf ∷ linksBack ∷ ringAway ∷ chain ∷ []
+cases = session ∷ alone ∷ nowhere ∷ loop ∷ ring ∷ spare ∷ unmasked ∷ full ∷ half ∷ hunted ∷ turned ∷ blank ∷ blankRing ∷ otherHalf ∷ linksBack ∷ ringAway ∷ chain ∷ seventeen ∷ thirtyTwo ∷ []

@@ -14,7 +14,7 @@ use Rattle.simulation.proofs.Search.{lt-or-le}
 use Rattle.simulation.proofs.Ordered.{Rising, length-insert, length-remove}
 use Rattle.session.specs.Limits.{maxStates, maxNodes, maxEdges, edgesAt, fixedSize}
 use Rattle.session.specs.Trigger.{Trigger, Graph, Marks, states, nodes, edge, edgeNumber, withEdge, withoutEdge}
-use Rattle.session.specs.Layout.{table, section, markWord, image, triggerOf, graphOf, marksOf, inLayout}
+use Rattle.session.specs.Layout.{table, section, markWord, image, triggerOf, graphOf, marksOf, inLayout, imageFor}
 use Rattle.session.proofs.Tables.{length-section, getD-section, section-zero}
 use Rattle.session.proofs.Decoded.{layout-facts, layout-whole}
 use Rattle.edges.proofs.Moves.{zero-end}
@@ -57,7 +57,7 @@ module _ (t : Trigger) (g : Graph) (m : Marks) (rest : List ℕ) where
   begun n = states t ∷ nodes g ∷ n ∷ t .inverted ∷ middle
 
   around : (es : List ℕ) → image t (record { samples = g .samples; edges = es }) m ++ rest ≡ begun (length es) ++ (section maxEdges es ++ marks)
-  unfolding image markWord
+  unfolding imageFor markWord
   around es = simp append-assoc
 
   begun-length : (n : ℕ) → length (begun n) ≡ edgesAt

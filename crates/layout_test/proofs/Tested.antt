@@ -34,21 +34,7 @@ use Rattle.session.specs.Limits.{
   fixedSize,
 }
 use Rattle.session.specs.Trigger.{Trigger, Graph, Marks, states, nodes, accepts, admits}
-use Rattle.session.specs.Layout.{
-  table,
-  section,
-  markWord,
-  image,
-  part,
-  triggerOf,
-  graphOf,
-  marksOf,
-  below,
-  names,
-  validGraph,
-  validMarks,
-  inLayout,
-}
+use Rattle.session.specs.Layout.{table, section, markWord, image, part, triggerOf, graphOf, marksOf, below, names, validGraph, validMarks, inLayout, imageFor, marksIn}
 use Rattle.session.specs.Tests.{fits, allNamed, sparse, triggerTest, graphTest, marksTest}
 use Rattle.session.proofs.Tables.{length-table, getD-table, length-section, getD-section, below-take, below-make, fits-gathered}
 use Rattle.session.proofs.Valid.{TriggerFacts, GraphFacts, graph-facts, marks-facts, marks-valid}
@@ -310,13 +296,6 @@ pub test-samples : (xs : List ℕ) (m e : ℕ) → graphTest xs m e ≡ true →
 test-samples xs m e h few edges long =
     fits-below xs samplesAt maxNodes wordBits m (omega arith) few (graph-take xs long m e edges h .samples)
 
-pub test-marks : (xs : List ℕ) (n m : ℕ) → fits n m (part xs marksAt maxNodes) ≡ true → n ≤ maxStates → m ≤ maxNodes → fixedSize ≤ length xs
-    → below (2 ^ wordBits) (part xs marksAt m) ≡ true
-test-marks xs n m h few nodes long =
-    part-below xs marksAt m (2 ^ wordBits) (omega arith)
-    (λ i l.
-    lt-of-lt-of-le (fits-take xs marksAt maxNodes n m (omega arith) h .small i (omega arith) l) (pow-mono few))
-
 -- the n words from p on, whose first m are tested together, and the others
 module _ (xs : List ℕ) (p n m : ℕ) (h : m ≤ n) (long : p + n ≤ length xs) where
   part-front : take m (part xs p n) ≡ part xs p (p + m - p)
@@ -457,7 +436,7 @@ module _ (xs : List ℕ) where
         (pow-pos (states t))
 
     kept : (u v : ℕ) → u < n → v < m → members (getD xs (marksAt + v) 0) u ≡ true → admits t g u v ≡ true
-    unfolding marksOf
+    unfolding marksIn
     kept u v l c d =
         marks-facts t g k (f .marks) u v (omega (arith, f .counts .0)) (omega (arith, f .counts .1))
         (and-make (lt-ltb u n l) (and-make (lt-ltb v m c) d))
@@ -525,7 +504,7 @@ module _ (xs : List ℕ) where
 
       -- the word of a node is that of its marks
       mark-same : (v : ℕ) → v < maxNodes → (u : ℕ) → u < states t → (ltb v (nodes g) && k u v) ≡ members (getD xs (marksAt + v) 0) u
-      unfolding marksOf
+      unfolding marksIn
       mark-same v l u c =
           ⊎-elim
           (λ (d : v < m). rw (count-nodes, lt-ltb v m d, lt-ltb u n (omega (arith, count-states))))
@@ -577,7 +556,7 @@ module _ (xs : List ℕ) where
           (drop-cons xs 2 0 (omega arith) ∙ ap (λ (r : List ℕ). e ∷ r) (drop-cons xs invertedAt 0 (omega arith))))
 
       whole : xs ≡ image t g k ++ rest
-      unfolding image
+      unfolding imageFor
       whole =
           at-counts ∙ ap (λ (r : List ℕ). n ∷ m ∷ e ∷ t .inverted ∷ r) at-masks ∙ rw (count-states, count-nodes, count-edges) (simp append-assoc)
 

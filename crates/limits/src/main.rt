@@ -2,29 +2,40 @@
 use matching::Answer;
 use matching::Firing;
 
+// One more of each list than a load may have, and one more word and place than it must have.
+pub const STATES: usize = session::MAX_STATES + 1;
+
+pub const NODES: usize = session::MAX_NODES + 1;
+
+pub const EDGES: usize = session::MAX_EDGES + 1;
+
+pub const WORDS: usize = session::FIXED_SIZE + 1;
+
+pub const PLACES: usize = session::MAX_CHANGES + 1;
+
 // States that admit every node, no links, and what is lent.
-fn halves() -> [u16; 17] {
-    [0u16; 17]
+fn halves() -> [u16; STATES] {
+    [0u16; STATES]
 }
 
-fn no_links() -> [u32; 17] {
-    [0u32; 17]
+fn no_links() -> [u32; STATES] {
+    [0u32; STATES]
 }
 
-fn samples() -> [u16; 513] {
-    [0u16; 513]
+fn samples() -> [u16; NODES] {
+    [0u16; NODES]
 }
 
-fn edge_ends() -> [u32; 2049] {
-    [0u32; 2049]
+fn edge_ends() -> [u32; EDGES] {
+    [0u32; EDGES]
 }
 
-fn memory() -> [u32; 3130] {
-    [7u32; 3130]
+fn memory() -> [u32; WORDS] {
+    [7u32; WORDS]
 }
 
-fn room() -> [i32; 8200] {
-    [7i32; 8200]
+fn room() -> [i32; PLACES] {
+    [7i32; PLACES]
 }
 
 // The starts and the ends of the edges (0, 0), (0, 1), (0, 2), (0, 3), (1, 0) and so on, four from each node.
@@ -94,7 +105,7 @@ fn least() -> Sizes {
         starts: 0,
         ends: 0,
         words: session::FIXED_SIZE,
-        places: 8192,
+        places: session::MAX_CHANGES,
     }
 }
 
@@ -113,16 +124,16 @@ fn attempt(label: &[u8], sizes: Sizes, links: &[u32], starts: &[u32], ends: &[u3
     let e = sizes.ends;
     let words = sizes.words;
     let places = sizes.places;
-    if 17 < a {
+    if STATES < a {
         return;
     }
-    if 17 < b {
+    if STATES < b {
         return;
     }
     if links.len() < c {
         return;
     }
-    if 513 < n {
+    if NODES < n {
         return;
     }
     if starts.len() < d {
@@ -131,10 +142,10 @@ fn attempt(label: &[u8], sizes: Sizes, links: &[u32], starts: &[u32], ends: &[u3
     if ends.len() < e {
         return;
     }
-    if 3129 < words {
+    if WORDS < words {
         return;
     }
-    if 8199 < places {
+    if PLACES < places {
         return;
     }
     show(
@@ -166,21 +177,21 @@ fn plain(label: &[u8], states: usize, nodes: usize) {
     attempt(label, sizes, &links, &starts, &ends);
 }
 
-// Three states, the first with these links, and this set of them inverted.
-fn three(label: &[u8], set: u32, inverted: u32) {
+// So many states, the first with these links, and this set of them inverted.
+fn linked(label: &[u8], states: usize, set: u32, inverted: u32) {
     let mut links = no_links();
     let starts = edge_ends();
     let ends = edge_ends();
     let mut sizes = least();
     links[0] = set;
-    sizes.masks = 3;
-    sizes.values = 3;
-    sizes.links = 3;
+    sizes.masks = states;
+    sizes.values = states;
+    sizes.links = states;
     sizes.inverted = inverted;
     attempt(label, sizes, &links, &starts, &ends);
 }
 
-// One state linked to itself, over 512 nodes with the two edges (a, b) and (c, d).
+// One state linked to itself, over as many nodes as there may be with the two edges (a, b) and (c, d).
 fn joined(label: &[u8], a: u32, b: u32, c: u32, d: u32) {
     let mut links = no_links();
     let mut starts = edge_ends();
@@ -191,13 +202,13 @@ fn joined(label: &[u8], a: u32, b: u32, c: u32, d: u32) {
     ends[0] = b;
     starts[1] = c;
     ends[1] = d;
-    sizes.nodes = 512;
+    sizes.nodes = session::MAX_NODES;
     sizes.starts = 2;
     sizes.ends = 2;
     attempt(label, sizes, &links, &starts, &ends);
 }
 
-// One state linked to itself, over 512 nodes with this many edges, four from each node.
+// One state linked to itself, over as many nodes as there may be with this many edges, four from each node.
 fn dense(label: &[u8], edges: usize) {
     let mut links = no_links();
     let mut starts = edge_ends();
@@ -206,7 +217,7 @@ fn dense(label: &[u8], edges: usize) {
     links[0] = 1;
     fill_starts(&mut starts);
     fill_ends(&mut ends);
-    sizes.nodes = 512;
+    sizes.nodes = session::MAX_NODES;
     sizes.starts = edges;
     sizes.ends = edges;
     attempt(label, sizes, &links, &starts, &ends);
@@ -243,17 +254,30 @@ fn main() {
     plain(b"1 state, 1 node", 1, 1);
     plain(b"16 states", 16, 1);
     plain(b"17 states", 17, 1);
+    plain(b"32 states", 32, 1);
+    plain(b"33 states", 33, 1);
     plain(b"512 nodes", 1, 512);
     plain(b"513 nodes", 1, 513);
     plain(b"16 states, 512 nodes", 16, 512);
-    plain(b"17 states, 513 nodes", 17, 513);
-    three(b"3 states, a link to state 3", 4, 0);
-    three(b"3 states, a link to state 4", 8, 0);
-    three(b"3 states, a link to state 32", 2147483648, 0);
-    three(b"3 states, state 3 inverted", 0, 4);
-    three(b"3 states, state 4 inverted", 0, 8);
-    three(b"3 states, state 32 inverted", 0, 2147483648);
-    three(b"3 states, state 4 inverted and linked to", 8, 8);
+    plain(b"32 states, 512 nodes", 32, 512);
+    plain(b"33 states, 513 nodes", 33, 513);
+    linked(b"3 states, a link to state 3", 3, 4, 0);
+    linked(b"3 states, a link to state 4", 3, 8, 0);
+    linked(b"3 states, a link to state 32", 3, 2147483648, 0);
+    linked(b"3 states, state 3 inverted", 3, 0, 4);
+    linked(b"3 states, state 4 inverted", 3, 0, 8);
+    linked(b"3 states, state 32 inverted", 3, 0, 2147483648);
+    linked(b"3 states, state 4 inverted and linked to", 3, 8, 8);
+    linked(b"16 states, a link to state 16", 16, 1 << 15, 0);
+    linked(b"16 states, a link to state 17", 16, 1 << 16, 0);
+    linked(b"17 states, a link to state 17", 17, 1 << 16, 0);
+    linked(b"17 states, a link to state 18", 17, 1 << 17, 0);
+    linked(b"31 states, a link to state 32", 31, 1 << 31, 0);
+    linked(b"32 states, a link to state 32", 32, 1 << 31, 0);
+    linked(b"32 states, links to all", 32, 4294967295, 0);
+    linked(b"16 states, state 17 inverted", 16, 0, 1 << 16);
+    linked(b"32 states, all inverted", 32, 0, 4294967295);
+    linked(b"33 states, a link to state 32", 33, 1 << 31, 0);
     joined(b"edges (0, 511) and (511, 0)", 0, 511, 511, 0);
     joined(b"edges (0, 512) and (511, 0)", 0, 512, 511, 0);
     joined(b"edges (0, 0) and (512, 0)", 0, 0, 512, 0);
@@ -266,10 +290,19 @@ fn main() {
     lent(
         b"memory and room as long as they must be",
         session::FIXED_SIZE,
-        8192,
+        session::MAX_CHANGES,
     );
-    lent(b"memory one word short", session::FIXED_SIZE - 1, 8192);
-    lent(b"room one place short", session::FIXED_SIZE, 8191);
+    lent(
+        b"memory one word short",
+        session::FIXED_SIZE - 1,
+        session::MAX_CHANGES,
+    );
+    lent(
+        b"room one place short",
+        session::FIXED_SIZE,
+        session::MAX_CHANGES - 1,
+    );
+    lent(b"room of 8192 places", session::FIXED_SIZE, 8192);
     partial(b"a mask without value and links", 2, 1, 1, 0, 0);
     partial(b"a value without mask and links", 1, 2, 1, 0, 0);
     partial(b"links without mask and value", 1, 1, 2, 0, 0);

@@ -11,10 +11,10 @@ use lib.Seq.{getD-set-same, getD-set-other}
 use borrow.Author.Tests.{le-ltb, eqb-true, eqb-false, eq-eqb}
 use Rattle.simulation.specs.Sets.{Set, also, without}
 use Rattle.simulation.proofs.Sets.{split, same, and-make, and-l, and-r, any-make, any-take}
-use Rattle.bits.specs.Word.{members, overlaps, setBits}
+use Rattle.bits.specs.Word.{members, meets}
 use Rattle.bits.proofs.Words.{zero-members}
 use Rattle.pair_tables.specs.Tables.{marked}
-use Rattle.links.specs.Links.{linkedFrom, linksTo, Callers}
+use Rattle.links.specs.Links.{linkedFrom, linksFor, CallersFor}
 use Rattle.simulation.proofs.Gains.{row-more}
 
 -- ---- a state is put into the words of its targets: `rest` is what is left of these
@@ -54,37 +54,37 @@ module _ (entry : List ℕ) (targets u : ℕ) where
     pub calling-end : rest ≡ 0 → (x o : ℕ) → marked now x o ≡ (marked entry x o || (eqb x u && members targets o))
     calling-end e x o = rw (e, zero-members o, and-false, or-false) at (r .both x o)
 
--- ---- the states below k are put in
+-- ---- the states below n are put in, into a table of k words
 
-module _ (links : List ℕ) where
-  pub record Called (k : ℕ) (callers : List ℕ) : Type 0 where
-    pub few : k ≤ length links
-    pub long : length callers ≡ setBits
-    pub words : (x o : ℕ) → marked callers x o ≡ (ltb x k && marked links o x)
+module _ (k : ℕ) (links : List ℕ) where
+  pub record Called (n : ℕ) (callers : List ℕ) : Type 0 where
+    pub few : n ≤ length links
+    pub long : length callers ≡ k
+    pub words : (x o : ℕ) → marked callers x o ≡ (ltb x n && marked links o x)
 
-  pub called-start : {callers : List ℕ} → length callers ≡ setBits → ((o : ℕ) → getD callers o 0 ≡ 0) → Called 0 callers
+  pub called-start : {callers : List ℕ} → length callers ≡ k → ((o : ℕ) → getD callers o 0 ≡ 0) → Called 0 callers
   called-start l z = record {
     few = omega arith;
     long = l;
     words = λ x o. rw (z o, zero-members x, le-ltb x 0 (omega arith));
   }
 
-  pub called-more : {k : ℕ} {old new : List ℕ} → Called k old → k < length links → length new ≡ length old
-      → ((x o : ℕ) → marked new x o ≡ (marked old x o || (eqb x k && marked links o k)))
-      → Called (k + 1) new
-  called-more {k} {old} {new} c l e h = record {
+  pub called-more : {n : ℕ} {old new : List ℕ} → Called n old → n < length links → length new ≡ length old
+      → ((x o : ℕ) → marked new x o ≡ (marked old x o || (eqb x n && marked links o n)))
+      → Called (n + 1) new
+  called-more {n} {old} {new} c l e h = record {
     few = omega arith;
     long = e ∙ c .long;
-    words = row-more (λ x o. marked links o x) (marked old) (marked new) k (c .words) h;
+    words = row-more (λ x o. marked links o x) (marked old) (marked new) n (c .words) h;
   }
 
-  pub called-end : {k : ℕ} {callers : List ℕ} → Called k callers → k ≡ length links → Callers links callers
+  pub called-end : {n : ℕ} {callers : List ℕ} → Called n callers → n ≡ length links → CallersFor k links callers
   called-end c e = record { long = c .long; called = λ o u l. rw (← e) (c .words u o) }
 
 -- ---- from a set its callers are those with a link to it
 
-pub callers-linked : (links callers : List ℕ) → Callers links callers → (w : ℕ) → linkedFrom callers w ≡ linksTo links w
-callers-linked links callers c w = fun-ext (λ u. same (linkedFrom callers w u) (linksTo links w u) (there u) (back u))
+pub callers-linked : (k : ℕ) (links callers : List ℕ) → CallersFor k links callers → (w : ℕ) → linkedFrom callers w ≡ linksFor k links w
+callers-linked k links callers c w = fun-ext (λ u. same (linkedFrom callers w u) (linksFor k links w u) (there u) (back u))
   where
     calls : ℕ → Set
     calls u o = members w o && members (getD callers o 0) u
@@ -92,21 +92,21 @@ callers-linked links callers c w = fun-ext (λ u. same (linkedFrom callers w u) 
     links-at : ℕ → Set
     links-at u o = members (getD links u 0) o && members w o
 
-    there : (u : ℕ) → linkedFrom callers w u ≡ true → linksTo links w u ≡ true
+    there : (u : ℕ) → linkedFrom callers w u ≡ true → linksFor k links w u ≡ true
     there u h =
         let r = any-take (length callers) (calls u) h in
         let o = r .0 in
-        let l : o < setBits = omega (arith, r .1, c .long) in
+        let l : o < k = omega (arith, r .1, c .long) in
         let both = sym (c .called o u l) ∙ and-r (members w o) (members (getD callers o 0) u) (r .2) in
         and-make (and-l (ltb u (length links)) (members (getD links u 0) o) both)
-        (any-make setBits (links-at u) o l
+        (any-make k (links-at u) o l
         (and-make (and-r (ltb u (length links)) (members (getD links u 0) o) both) (and-l (members w o) (members (getD callers o 0) u) (r .2))))
 
-    back : (u : ℕ) → linksTo links w u ≡ true → linkedFrom callers w u ≡ true
+    back : (u : ℕ) → linksFor k links w u ≡ true → linkedFrom callers w u ≡ true
     back u h =
-        let r = any-take setBits (links-at u) (and-r (ltb u (length links)) (overlaps (getD links u 0) w) h) in
+        let r = any-take k (links-at u) (and-r (ltb u (length links)) (meets k (getD links u 0) w) h) in
         let o = r .0 in
         any-make (length callers) (calls u) o (omega (arith, r .1, c .long))
         (and-make (and-r (members (getD links u 0) o) (members w o) (r .2))
         (c .called o u (r .1)
-        ∙ and-make (and-l (ltb u (length links)) (overlaps (getD links u 0) w) h) (and-l (members (getD links u 0) o) (members w o) (r .2))))
+        ∙ and-make (and-l (ltb u (length links)) (meets k (getD links u 0) w) h) (and-l (members (getD links u 0) o) (members w o) (r .2))))

@@ -1,5 +1,6 @@
 -- Sets of states that a loop builds: those that pass a test, those with a link to a set, those to which a set has links.
-use Prim.Native.Nat.{ℕ, _+_, _<_}
+use Prim.Native.Nat.{ℕ, _+_, _^_, _<_, _≤_}
+use native.Mathlib.Omega.{arith}
 use mathlib.Core.Path.{_≡_, refl, sym, ap, subst, fun-ext, _∙_}
 use mathlib.Core.Logic.{⊎-elim}
 use mathlib.Core.Bool.{Bool, true, false, not, _&&_, _||_, and-true, and-false, or-assoc, or-false}
@@ -8,19 +9,23 @@ use lib.Dec.{ltb, eqb}
 use lib.ListN.{length, getD}
 use borrow.Author.Tests.{ltb-true, lt-ltb, eqb-true, eq-eqb}
 use lib.Bits.{bitOr}
+use lib.Pow.{pow-pos}
+use Rattle.session.specs.Layout.{below}
+use Rattle.session.proofs.Tables.{below-at}
 use Rattle.simulation.specs.Sets.{Set, none, also, without, minus}
 use Rattle.simulation.proofs.Sets.{clash, split, same, refuted, and-make, and-l, and-r, or-l, or-r, or-take, not-make, any-make, any-take}
 use Rattle.simulation.proofs.Edges.{any-same}
-use Rattle.bits.specs.Word.{members, overlaps, setBits}
+use Rattle.bits.specs.Word.{members, meets, halfBits, setBits}
+use Rattle.bits.proofs.Tests.{meets-wider}
 use Rattle.bits.proofs.Words.{zero-members, or-members}
-use Rattle.links.specs.Links.{linkedFrom, linksTo}
+use Rattle.links.specs.Links.{linkedFrom, linksFor, linksTo}
 use Rattle.simulation.proofs.Gains.{gained-none, gained-more, gained-pass}
 
 -- ---- the states with a link to a state of a word, those below u tested
 
-module _ (links : List ℕ) (word : ℕ) where
+module _ (k : ℕ) (links : List ℕ) (word : ℕ) where
   abbrev touches : Set
-  touches u = overlaps (getD links u 0) word
+  touches u = meets k (getD links u 0) word
 
   abbrev pub linkedTo : ℕ → Set
   linkedTo u x = ltb x u && touches x
@@ -29,17 +34,17 @@ module _ (links : List ℕ) (word : ℕ) where
   linked-none = fun-ext zero-members ∙ gained-none none touches
 
   module _ (u all : ℕ) (e : members all ≡ linkedTo u) where
-    pub linked-more : (all' : ℕ) → overlaps (getD links u 0) word ≡ true → members all' ≡ also (members all) u → members all' ≡ linkedTo (u + 1)
+    pub linked-more : (all' : ℕ) → meets k (getD links u 0) word ≡ true → members all' ≡ also (members all) u → members all' ≡ linkedTo (u + 1)
     linked-more all' some m = gained-more none touches u e some m
 
-    pub linked-pass : overlaps (getD links u 0) word ≡ false → members all ≡ linkedTo (u + 1)
+    pub linked-pass : meets k (getD links u 0) word ≡ false → members all ≡ linkedTo (u + 1)
     linked-pass fails = gained-pass none touches u e fails
 
-pub links-none : (links : List ℕ) (u : ℕ) → (ltb u (length links) && overlaps (getD links u 0) 0) ≡ false
-links-none links u =
-    refuted (ltb u (length links) && overlaps (getD links u 0) 0)
+pub links-none : (k : ℕ) (links : List ℕ) (u : ℕ) → linksFor k links 0 u ≡ false
+links-none k links u =
+    refuted (linksFor k links 0 u)
     (λ h.
-    let r = any-take setBits (λ o. members (getD links u 0) o && members 0 o) (and-r (ltb u (length links)) (overlaps (getD links u 0) 0) h) in
+    let r = any-take k (λ o. members (getD links u 0) o && members 0 o) (and-r (ltb u (length links)) (meets k (getD links u 0) 0) h) in
     clash (and-r (members (getD links u 0) (r .0)) (members 0 (r .0)) (r .2)) (zero-members (r .0)))
 
 -- ---- the states to which a state of a word has a link: `rest` is what is left of the word, and `all` has the links of the others
@@ -127,10 +132,10 @@ module _ (links : List ℕ) (word : ℕ) where
 
 -- ---- the states of a word without a link to one of the others: those of `rest` are still to be tested
 
-module _ (links : List ℕ) (word others : ℕ) where
+module _ (k : ℕ) (links : List ℕ) (word others : ℕ) where
   pub record Thinned (left rest : ℕ) : Type 0 where
     pub small : (u : ℕ) → members rest u ≡ true → u < length links
-    pub words : (u : ℕ) → members left u ≡ (members word u && (members rest u || not (linksTo links others u)))
+    pub words : (u : ℕ) → members left u ≡ (members word u && (members rest u || not (linksFor k links others u)))
 
   pub thinned-start : (rest : ℕ) → ((u : ℕ) → members rest u ≡ (members word u && ltb u (length links))) → Thinned word rest
   thinned-start rest e =
@@ -155,10 +160,10 @@ module _ (links : List ℕ) (word others : ℕ) where
     fewer-small x h = r .small x (and-l (members rest x) (not (eqb x u)) (sym (at x) ∙ h))
 
     -- at another state nothing moves
-    elsewhere : (x : ℕ) → eqb x u ≡ false → members left x ≡ (members word x && (members rest' x || not (linksTo links others x)))
+    elsewhere : (x : ℕ) → eqb x u ≡ false → members left x ≡ (members word x && (members rest' x || not (linksFor k links others x)))
     elsewhere x t =
         let still : members rest' x ≡ members rest x = at x ∙ rw t (and-true (members rest x)) in
-        r .words x ∙ ap (λ (b : Bool). members word x && (b || not (linksTo links others x))) (sym still)
+        r .words x ∙ ap (λ (b : Bool). members word x && (b || not (linksFor k links others x))) (sym still)
 
     done-with : members rest' u ≡ false
     done-with = at u ∙ rw (eq-eqb u u refl) (and-false (members rest u))
@@ -166,7 +171,7 @@ module _ (links : List ℕ) (word others : ℕ) where
     inside : ltb u (length links) ≡ true
     inside = lt-ltb u (length links) (r .small u m)
 
-    pub thinned-out : overlaps (getD links u 0) others ≡ true → (left' : ℕ) → members left' ≡ without (members left) u → Thinned left' rest'
+    pub thinned-out : meets k (getD links u 0) others ≡ true → (left' : ℕ) → members left' ≡ without (members left) u → Thinned left' rest'
     thinned-out some left' out =
         record {
           small = fewer-small;
@@ -178,7 +183,7 @@ module _ (links : List ℕ) (word others : ℕ) where
               (split (eqb x u));
         }
 
-    pub thinned-pass : overlaps (getD links u 0) others ≡ false → Thinned left rest'
+    pub thinned-pass : meets k (getD links u 0) others ≡ false → Thinned left rest'
     thinned-pass none =
         record {
           small = fewer-small;
@@ -189,6 +194,16 @@ module _ (links : List ℕ) (word others : ℕ) where
               (split (eqb x u));
         }
 
-  pub thinned-done : (left rest : ℕ) → Thinned left rest → rest ≡ 0 → members left ≡ minus (members word) (linksTo links others)
+  pub thinned-done : (left rest : ℕ) → Thinned left rest → rest ≡ 0 → members left ≡ minus (members word) (linksFor k links others)
   thinned-done left rest r e =
-      fun-ext (λ u. r .words u ∙ ap (λ (b : Bool). members word u && (b || not (linksTo links others u))) (ap (λ (x : ℕ). members x u) e ∙ zero-members u))
+      fun-ext (λ u. r .words u ∙ ap (λ (b : Bool). members word u && (b || not (linksFor k links others u))) (ap (λ (x : ℕ). members x u) e ∙ zero-members u))
+
+-- ---- the width does not matter: links of k bits are told by k bits
+
+pub links-wider : (k j : ℕ) (links : List ℕ) (word : ℕ) → below (2 ^ k) links ≡ true → k ≤ j → linksFor j links word ≡ linksFor k links word
+links-wider k j links word h l =
+    fun-ext (λ u. ap (λ (b : Bool). ltb u (length links) && b) (meets-wider k j (getD links u 0) word (below-at (2 ^ k) links h (pow-pos k) u) l))
+
+-- of half a word: the sets of at most 16 states are those that they were
+pub links-half : (links : List ℕ) (word : ℕ) → below (2 ^ halfBits) links ≡ true → linksTo links word ≡ linksFor halfBits links word
+links-half links word h = links-wider halfBits setBits links word h (omega arith)

@@ -3,6 +3,7 @@ pub mod Worked
 pub mod Stands
 pub mod Cut
 pub mod Former
+pub mod Older
 pub mod Trials
 pub mod Handed
 pub mod Chains

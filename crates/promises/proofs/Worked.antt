@@ -1,6 +1,6 @@
 -- Cases computed from the definitions alone, beside those of the crate cases: a ring of three closed by one edge, a pair tried and dropped, and
 -- rules that are broken together.
-use Prim.Native.Nat.{ℕ, zero, suc, _-_}
+use Prim.Native.Nat.{ℕ, zero, suc, _+_, _-_, _^_}
 use mathlib.Core.Path.{_≡_, refl}
 use mathlib.Core.Bool.{Bool, true, false, _&&_, _||_}
 use mathlib.Core.List.{List, [], _∷_, map}
@@ -12,7 +12,7 @@ use Rattle.simulation.specs.System.{greatest, supported, closure, reaches}
 use Rattle.simulation.specs.Pattern.{best}
 use Rattle.simulation.specs.Ordered.{elem, insert, remove, joins}
 use Rattle.bits.specs.Word.{word}
-use Rattle.session.specs.Limits.{maxEdges, maxChanges, fixedSize}
+use Rattle.session.specs.Limits.{maxStates, maxNodes, maxEdges, maxChanges, fixedSize}
 use Rattle.session.specs.Trigger.{Trigger, Graph, nodes, linked, edge, edgeNumber, agrees, matches, accepts, admits}
 use Rattle.session.specs.Reached.{reached}
 use Rattle.session.specs.Layout.{table, markWord, below, inLayout}
@@ -102,10 +102,10 @@ load-verdicts =
     verdict (loadRules (fixedSize - 1) maxChanges (given [] [] 0 [] [] []))
     ∷ verdict (loadRules fixedSize (maxChanges - 1) (given [] [] 0 [] [] []))
     ∷ verdict (loadRules fixedSize maxChanges (given [] (2 ∷ []) 0 [] [] []))
-    ∷ verdict (loadRules fixedSize maxChanges (given (many 17) (131072 ∷ many 16) 0 [] [] []))
+    ∷ verdict (loadRules fixedSize maxChanges (given (many (maxStates + 1)) (2 ^ (maxStates + 1) ∷ many maxStates) 0 [] [] []))
     ∷ verdict (loadRules fixedSize maxChanges (given (0 ∷ []) (2 ∷ []) 2 [] [] []))
-    ∷ verdict (loadRules fixedSize maxChanges (given (0 ∷ []) (2 ∷ []) 1 (many 513) [] []))
-    ∷ verdict (loadRules fixedSize maxChanges (given (0 ∷ []) (1 ∷ []) 0 (many 513) (0 ∷ []) []))
+    ∷ verdict (loadRules fixedSize maxChanges (given (0 ∷ []) (2 ∷ []) 1 (many (maxNodes + 1)) [] []))
+    ∷ verdict (loadRules fixedSize maxChanges (given (0 ∷ []) (1 ∷ []) 0 (many (maxNodes + 1)) (0 ∷ []) []))
     ∷ verdict (loadRules fixedSize maxChanges (given (0 ∷ []) (1 ∷ []) 0 (0 ∷ []) (1 ∷ 0 ∷ []) (0 ∷ [])))
     ∷ verdict (loadRules fixedSize maxChanges (given (0 ∷ []) (1 ∷ []) 0 (0 ∷ []) (0 ∷ 0 ∷ []) (1 ∷ 0 ∷ [])))
     ∷ verdict (loadRules fixedSize maxChanges (given (0 ∷ []) (1 ∷ []) 0 (0 ∷ 0 ∷ []) (0 ∷ 0 ∷ []) (1 ∷ 0 ∷ [])))

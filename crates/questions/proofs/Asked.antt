@@ -13,7 +13,7 @@ use Rattle.bits.specs.Word.{members}
 use Rattle.session.specs.Limits.{fixedSize, marksAt}
 use Rattle.session.specs.Trigger.{Trigger, states, nodes, linked}
 use Rattle.session.specs.Reached.{linkedBy}
-use Rattle.session.specs.Layout.{triggerOf, graphOf, marksOf, inLayout}
+use Rattle.session.specs.Layout.{triggerOf, graphOf, marksOf, inLayout, marksIn}
 use Rattle.session.proofs.Decoded.{layout-facts, layout-limits}
 use Rattle.listing.specs.Order.{fold, visit, order}
 use Rattle.walk_order.specs.Walks.{rest}
@@ -113,7 +113,7 @@ module _ (broken n : ℕ) (e : broken ≡ n) (ys : List ℕ) where
 
 module _ (xs : List ℕ) where
   pub mark-held : (u v : ℕ) → u < getD xs 0 0 → v < getD xs 1 0 → members (getD xs (marksAt + v) 0) u ≡ marksOf xs u v
-  unfolding marksOf
+  unfolding marksIn
   mark-held u v l k = rw (lt-ltb u (getD xs 0 0) l, lt-ltb v (getD xs 1 0) k)
 
 -- ---- the order depends on the count and the links alone

@@ -170,7 +170,7 @@ module _ (word : ℕ) (links es ss ts : List ℕ) (missing : ℕ) (lacks : membe
   -- where none is missing the word stays
   pub kept-whole : n ≤ setBits → missing ≡ 0 → members word ≡ keptOf word links es ss ts
   kept-whole few e =
-      fun-ext (λ u. sym (ap (λ (b : Bool). members word u && not b) (ap (λ (x : ℕ). linksTo links x u) e ∙ links-none links u) ∙ and-true (members word u)))
+      fun-ext (λ u. sym (ap (λ (b : Bool). members word u && not b) (ap (λ (x : ℕ). linksTo links x u) e ∙ links-none setBits links u) ∙ and-true (members word u)))
       ∙ kept-without few
 
   -- none is missing just where each state of the word is whole

@@ -73,7 +73,7 @@ module _ (links es ss ts ws : List ℕ) (v : ℕ) (inside : v < length ts) (ws�
         (λ w.
         sym
         (ap (λ (b : Bool). without (waits ws) v w || b)
-        (ap (λ (X : Set). predecessors es v w && anyBelow setBits X) (fun-ext (λ u. and-none (members (getD ts w 0) u) (links-none links u)))
+        (ap (λ (X : Set). predecessors es v w && anyBelow setBits X) (fun-ext (λ u. and-none (members (getD ts w 0) u) (links-none setBits links u)))
         ∙ and-none (predecessors es v w) (any-none setBits))
         ∙ or-false (without (waits ws) v w)));
   }

@@ -1,7 +1,7 @@
 // Tests of sections: the size of words, zeros where a section is unused, edges that ascend and name nodes, marks at admitted pairs alone.
 ghost use mathlib.Core.Path.{_≡_};
 ghost use mathlib.Core.Bool.{Bool, true, _&&_, not, cond};
-ghost use Prim.Native.Nat.{_-_, _^_, _≤_, _<_};
+ghost use Prim.Native.Nat.{ℕ, _+_, _-_, _^_, _≤_, _<_};
 ghost use lib.Dec.{eqb};
 ghost use lib.ListN.{length, getD};
 ghost use Rattle.simulation.specs.Ordered.{ascends};
@@ -13,6 +13,7 @@ ghost use Rattle.simulation.specs.Sets.{allBelow, anyBelow};
 ghost use Rattle.session.specs.Limits.{maxNodes, wordBits};
 ghost use Rattle.session.specs.Trigger.{matches, accepts};
 use bits::ALL_HALF;
+use bits::HALF_BITS;
 use bits::chosen_half;
 use pair_tables::turned_states;
 use sections::narrow;
@@ -133,9 +134,9 @@ pub fn all_sparse(
     marks: &[u16],
     used: u32,
 ) -> bool
-    requires { ⌜ (length (now samples) ≡ length (now marks)) × (length (now values) ≡ length (now masks)) × (length (now masks) ≤ setBits) ⌝ }
+    requires { ⌜ (length (now samples) ≡ length (now marks)) × (length (now values) ≡ length (now masks)) × (length (now masks) ≤ halfBits) ⌝ }
     requires { ⌜ below (2 ^ wordBits) (now masks) ≡ true ⌝ }
-    requires { ⌜ members used ≡ (λ u. anyBelow (length (now marks)) (λ v. members (getD (now marks) v 0) u)) ⌝ }
+    requires { ⌜ ((u : ℕ) → u < halfBits → members used u ≡ anyBelow (length (now marks)) (λ v. members (getD (now marks) v 0) u)) ⌝ }
     ensures { λ r. ⌜ r ≡ allBelow (length (now (masks .entry))) (λ u. sparse (now (samples .entry)) (now (marks .entry)) (matches wordBits (members turned u) (getD (now (masks .entry)) u 0) (getD (now (values .entry)) u 0)) u) ⌝ }
 {
     let mut faults: u32 = 0;
@@ -155,7 +156,75 @@ pub fn all_sparse(
     faults == 0
 }
 
-// The same of words, whose halves are compared, since a vector holds twice as many, and of the states that are inverted.
+// The same of the states from `first` on, half as many as a word has bits at most, whose masks and values these are: their marks are half of each
+// word. Halves are compared, since a vector holds twice as many.
+pub fn half_admitted(
+    masks: &[u32],
+    values: &[u32],
+    turned: u32,
+    samples: &[u16],
+    marks: &[u32],
+    used: u32,
+    first: u32,
+) -> bool
+    requires { ⌜ (length (now samples) ≡ length (now marks)) × (length (now values) ≡ length (now masks)) × (length (now masks) ≤ halfBits) ⌝ }
+    requires { ⌜ below (2 ^ wordBits) (now masks) ≡ true ⌝ }
+    requires { ⌜ (length (now marks) ≤ maxNodes) × (first < setBits) ⌝ }
+    requires { ⌜ members used ≡ (λ u. anyBelow (length (now marks)) (λ v. members (getD (now marks) v 0) u)) ⌝ }
+    ensures { λ r. ⌜ r ≡ allBelow (length (now (masks .entry))) (λ u. sparse (now (samples .entry)) (now (marks .entry)) (matches wordBits (members turned (first + u)) (getD (now (masks .entry)) u 0) (getD (now (values .entry)) u 0)) (first + u)) ⌝ }
+{
+    let some = used >> first;
+    if some == 0 {
+        return true;
+    }
+    let nodes = marks.len();
+    let mut signs = [0u16; session::MAX_NODES];
+    narrow(&mut signs[..nodes], marks, first);
+    all_sparse(
+        masks,
+        values,
+        turned >> first,
+        samples,
+        &signs[..nodes],
+        some,
+    )
+}
+
+// The same of all states. Those that a half word has no bit for are tested by a second pass.
+pub fn both_admitted(
+    masks: &[u32],
+    values: &[u32],
+    turned: u32,
+    samples: &[u16],
+    marks: &[u32],
+    used: u32,
+) -> bool
+    requires { ⌜ (length (now samples) ≡ length (now marks)) × (length (now values) ≡ length (now masks)) × (length (now masks) ≤ setBits) ⌝ }
+    requires { ⌜ below (2 ^ wordBits) (now masks) ≡ true ⌝ }
+    requires { ⌜ length (now marks) ≤ maxNodes ⌝ }
+    requires { ⌜ members used ≡ (λ u. anyBelow (length (now marks)) (λ v. members (getD (now marks) v 0) u)) ⌝ }
+    ensures { λ r. ⌜ r ≡ allBelow (length (now (masks .entry))) (λ u. sparse (now (samples .entry)) (now (marks .entry)) (matches wordBits (members turned u) (getD (now (masks .entry)) u 0) (getD (now (values .entry)) u 0)) u) ⌝ }
+{
+    if masks.len() <= HALF_BITS {
+        return half_admitted(masks, values, turned, samples, marks, used, 0);
+    }
+    let low = &masks[..HALF_BITS];
+    let high = &masks[HALF_BITS..];
+    if !half_admitted(low, &values[..HALF_BITS], turned, samples, marks, used, 0) {
+        return false;
+    }
+    half_admitted(
+        high,
+        &values[HALF_BITS..],
+        turned,
+        samples,
+        marks,
+        used,
+        HALF_BITS as u32,
+    )
+}
+
+// The same, given which states are inverted.
 pub fn all_admitted(
     masks: &[u32],
     values: &[u32],
@@ -166,7 +235,7 @@ pub fn all_admitted(
 ) -> bool
     requires { ⌜ (length (now samples) ≡ length (now marks)) × (length (now values) ≡ length (now masks)) × (length (now masks) ≤ setBits) ⌝ }
     requires { ⌜ below (2 ^ wordBits) (now masks) ≡ true ⌝ }
-    requires { ⌜ (below (2 ^ wordBits) (now samples) ≡ true) × (below (2 ^ wordBits) (now marks) ≡ true) × (length (now marks) ≤ maxNodes) ⌝ }
+    requires { ⌜ (below (2 ^ wordBits) (now samples) ≡ true) × (length (now marks) ≤ maxNodes) ⌝ }
     requires { ⌜ members used ≡ (λ u. anyBelow (length (now marks)) (λ v. members (getD (now marks) v 0) u)) ⌝ }
     ensures { λ r. ⌜ r ≡ allBelow (length (now (masks .entry))) (λ u. sparse (now (samples .entry)) (now (marks .entry)) (accepts wordBits (members inverted u) (getD (now (masks .entry)) u 0) (getD (now (values .entry)) u 0)) u) ⌝ }
 {
@@ -175,15 +244,13 @@ pub fn all_admitted(
     }
     let nodes = marks.len();
     let mut words = [0u16; session::MAX_NODES];
-    narrow(&mut words[..nodes], samples);
-    let mut signs = [0u16; session::MAX_NODES];
-    narrow(&mut signs[..nodes], marks);
-    all_sparse(
+    narrow(&mut words[..nodes], samples, 0);
+    both_admitted(
         masks,
         values,
         turned_states(masks, inverted),
         &words[..nodes],
-        &signs[..nodes],
+        marks,
         used,
     )
 }

@@ -2,10 +2,12 @@
 ghost use mathlib.Core.Path.{_≡_};
 ghost use mathlib.Core.Bool.{true};
 ghost use mathlib.Core.List.{[]};
-ghost use Prim.Native.Nat.{_^_, _≤_};
+ghost use Prim.Native.Nat.{_≤_, _<_};
 ghost use lib.ListN.{length};
-ghost use Rattle.session.specs.Limits.{maxNodes, wordBits};
+ghost use Rattle.session.specs.Limits.{maxNodes};
 ghost use Rattle.session.specs.Layout.{numbered, section, below};
+ghost use Rattle.session.specs.Tests.{halves};
+ghost use Rattle.bits.specs.Word.{setBits};
 
 // The words of a source go to places that are as many.
 pub fn copy_words(place: &mut [u32], source: &[u32])
@@ -85,14 +87,14 @@ pub fn fill_edges(place: &mut [u32], starts: &[u32], ends: &[u32])
     clear(&mut place[used..]);
 }
 
-// Small words go to places of half the width that are as many.
-pub fn narrow(place: &mut [u16], source: &[u32])
-    requires { ⌜ (length (now source) ≡ length (now place)) × (below (2 ^ wordBits) (now source) ≡ true) ⌝ }
-    ensures { λ r. ⌜ now (place .exit) ≡ now (source .entry) ⌝ }
+// Half of each word, from a bit on, goes to places of that width that are as many.
+pub fn narrow(place: &mut [u16], source: &[u32], from: u32)
+    requires { ⌜ (length (now source) ≡ length (now place)) × (from < setBits) ⌝ }
+    ensures { λ r. ⌜ now (place .exit) ≡ halves from (now (source .entry)) ⌝ }
 {
     let mut i = 0;
     while i < place.len() {
-        place[i] = source[i] as u16;
+        place[i] = ((source[i] >> from) & 0xFFFF) as u16;
         i += 1;
     }
 }

@@ -13,13 +13,15 @@ use Rattle.simulation.specs.Sets.{Set, allBelow}
 use Rattle.simulation.proofs.Sets.{same, and-make, and-l, and-r, all-make, all-take}
 use Rattle.bits.specs.Word.{members}
 use Rattle.bits.proofs.Words.{word-members}
-use Rattle.session.specs.Limits.{maxStates, maxNodes, maxEdges, masksAt, valuesAt, linksAt, samplesAt, edgesAt, marksAt, fixedSize}
+use Rattle.session.specs.Limits.{maxStates, maxNodes, maxEdges, masksAt, valuesAt, linksAt, samplesAt, edgesAt, marksFor, marksAt, fixedSize}
 use Rattle.session.specs.Trigger.{Trigger, Graph, Marks, states, nodes}
 use Rattle.session.specs.Layout.{
   markWord,
+  imageFor,
   image,
   triggerOf,
   graphOf,
+  marksIn,
   marksOf,
   validTrigger,
   validGraph,
@@ -28,6 +30,9 @@ use Rattle.session.specs.Layout.{
 }
 use Rattle.session.proofs.Valid.{TriggerFacts, trigger-facts, trigger-valid, GraphFacts, graph-facts, graph-valid}
 use Rattle.session.proofs.Image.{
+  states-for,
+  nodes-for,
+  mark-for,
   length-image,
   front-image,
   states-word,
@@ -39,7 +44,6 @@ use Rattle.session.proofs.Image.{
   link-word,
   sample-word,
   edge-word,
-  mark-word,
 }
 
 -- marks at states and nodes alone
@@ -47,15 +51,19 @@ abbrev pub Inside : Trigger → Graph → Marks → Type 0
 Inside t g m = (u v : ℕ) → m u v ≡ true → (u < states t) × (v < nodes g)
 
 -- what a mark read from a memory tells
-pub marks-take : (xs : List ℕ) (u v : ℕ) → marksOf xs u v ≡ true
-    → (u < getD xs 0 0) × (v < getD xs 1 0) × (members (getD xs (marksAt + v) 0) u ≡ true)
-unfolding marksOf
-marks-take xs u v h =
+read-take : (k : ℕ) (xs : List ℕ) (u v : ℕ) → marksIn k xs u v ≡ true
+    → (u < getD xs 0 0) × (v < getD xs 1 0) × (members (getD xs (marksFor k + v) 0) u ≡ true)
+unfolding marksIn
+read-take k xs u v h =
     let a = ltb u (getD xs 0 0) in
     let b = ltb v (getD xs 1 0) in
-    let c = members (getD xs (marksAt + v) 0) u in
-    let k = and-r a (b && c) h in
-    (ltb-true u (getD xs 0 0) (and-l a (b && c) h), ltb-true v (getD xs 1 0) (and-l b c k), and-r b c k)
+    let c = members (getD xs (marksFor k + v) 0) u in
+    let d = and-r a (b && c) h in
+    (ltb-true u (getD xs 0 0) (and-l a (b && c) h), ltb-true v (getD xs 1 0) (and-l b c d), and-r b c d)
+
+pub marks-take : (xs : List ℕ) (u v : ℕ) → marksOf xs u v ≡ true
+    → (u < getD xs 0 0) × (v < getD xs 1 0) × (members (getD xs (marksAt + v) 0) u ≡ true)
+marks-take = read-take maxStates
 
 -- ---- the parts of an image
 
@@ -71,6 +79,36 @@ part-is zs ys p n e h read =
   where
     long : length (take n (drop p zs)) ≡ n
     long = length-take-le n (drop p zs) (omega (arith, length-drop p zs))
+
+-- the marks are read back whatever number of places the states have
+module _ (k : ℕ) (t : Trigger) (g : Graph) (m : Marks) (rest : List ℕ) where
+  abbrev kept : List ℕ
+  kept = imageFor k t g m ++ rest
+
+  -- the mark of a state at a node, read from the node's word
+  mark-read : nodes g ≤ maxNodes → (u v : ℕ) → u < states t → v < nodes g → members (getD kept (marksFor k + v) 0) u ≡ m u v
+  unfolding markWord
+  mark-read few u v l b =
+      ap (λ (w : ℕ). members w u) (mark-for k t g m rest v (omega arith))
+      ∙ word-members (states t) (λ u. ltb v (nodes g) && m u v) u
+      ∙ rw (lt-ltb u (states t) l, lt-ltb v (nodes g) b)
+
+  pub marks-for : nodes g ≤ maxNodes → Inside t g m → marksIn k (imageFor k t g m ++ rest) ≡ m
+  unfolding marksIn
+  marks-for few inside = fun-ext (λ u. fun-ext (λ v. same (marksIn k kept u v) (m u v) (there u v) (back u v)))
+    where
+      there : (u v : ℕ) → marksIn k kept u v ≡ true → m u v ≡ true
+      there u v h =
+          let r = read-take k kept u v h in
+          let l : u < states t = rw (states-for k t g m rest) at (r .0) in
+          let b : v < nodes g = rw (nodes-for k t g m rest) at (r .1) in
+          sym (mark-read few u v l b) ∙ r .2
+
+      back : (u v : ℕ) → m u v ≡ true → marksIn k kept u v ≡ true
+      back u v h =
+          let r = inside u v h in
+          and-make (lt-ltb u (getD kept 0 0) (rw (states-for k t g m rest) (r .0)))
+          (and-make (lt-ltb v (getD kept 1 0) (rw (nodes-for k t g m rest) (r .1))) (mark-read few u v (r .0) (r .1) ∙ h))
 
 module _ (t : Trigger) (g : Graph) (m : Marks) (rest : List ℕ) where
   long : fixedSize ≤ length (image t g m ++ rest)
@@ -118,34 +156,8 @@ module _ (t : Trigger) (g : Graph) (m : Marks) (rest : List ℕ) where
           part-is all (g .edges) edgesAt (getD all 2 0) (edges-word t g m rest) (omega (arith, long, f .few-edges))
           (λ i l. edge-word t g m rest i (omega (arith, f .few-edges)))
 
-  -- the mark of a state at a node, read from the node's word
-  mark-read : nodes g ≤ maxNodes → (u v : ℕ) → u < states t → v < nodes g
-      → members (getD (image t g m ++ rest) (marksAt + v) 0) u ≡ m u v
-  unfolding markWord
-  mark-read few u v l k =
-      ap (λ (w : ℕ). members w u) (mark-word t g m rest v (omega arith))
-      ∙ word-members (states t) (λ u. ltb v (nodes g) && m u v) u
-      ∙ rw (lt-ltb u (states t) l, lt-ltb v (nodes g) k)
-
   pub marks-image : nodes g ≤ maxNodes → Inside t g m → marksOf (image t g m ++ rest) ≡ m
-  unfolding marksOf
-  marks-image few inside = fun-ext (λ u. fun-ext (λ v. same (marksOf all u v) (m u v) (there u v) (back u v)))
-    where
-      all : List ℕ
-      all = image t g m ++ rest
-
-      there : (u v : ℕ) → marksOf all u v ≡ true → m u v ≡ true
-      there u v h =
-          let r = marks-take all u v h in
-          let l : u < states t = rw (states-word t g m rest) at (r .0) in
-          let k : v < nodes g = rw (nodes-word t g m rest) at (r .1) in
-          sym (mark-read few u v l k) ∙ r .2
-
-      back : (u v : ℕ) → m u v ≡ true → marksOf all u v ≡ true
-      back u v h =
-          let r = inside u v h in
-          and-make (lt-ltb u (getD all 0 0) (rw (states-word t g m rest) (r .0)))
-          (and-make (lt-ltb v (getD all 1 0) (rw (nodes-word t g m rest) (r .1))) (mark-read few u v (r .0) (r .1) ∙ h))
+  marks-image = marks-for maxStates t g m rest
 
   -- a valid image is in layout, whatever follows it
   pub layout-image : TriggerFacts t → GraphFacts g → validMarks t g m ≡ true → Inside t g m → inLayout (image t g m ++ rest) ≡ true

@@ -5,4 +5,5 @@ pub mod Admission
 pub mod Reached
 pub mod Image
 pub mod Decoded
+pub mod Widths
 pub mod Stores

@@ -16,19 +16,19 @@ use Rattle.session.specs.Reached.{Reached, one, link, reached}
 module _ (t : Trigger) where
   -- the states with a link from X, and State One
   abbrev led : Set → Set
-  led X u' = eqb u' 0 || anyBelow (states t) (λ u. X u && linked t u u')
+  led X u' = eqb u' 0 || anyBelow (states t) (λ u. linked t u u' && X u)
 
   led-more : (X Y : Set) → ((u : ℕ) → In X u → In Y u) → (u' : ℕ) → In (led X) u' → In (led Y) u'
   led-more X Y sub u' h =
       ⊎-elim
-      (λ e. or-l (anyBelow (states t) (λ u. Y u && linked t u u')) e)
+      (λ e. or-l (anyBelow (states t) (λ u. linked t u u' && Y u)) e)
       (λ e.
-      let w = any-take (states t) (λ u. X u && linked t u u') e in
+      let w = any-take (states t) (λ u. linked t u u' && X u) e in
       let u = w .0 in
       or-r (eqb u' 0)
-      (any-make (states t) (λ u. Y u && linked t u u') u (w .1)
-      (and-make (sub u (and-l (X u) (linked t u u') (w .2))) (and-r (X u) (linked t u u') (w .2)))))
-      (or-take (eqb u' 0) (anyBelow (states t) (λ u. X u && linked t u u')) h)
+      (any-make (states t) (λ u. linked t u u' && Y u) u (w .1)
+      (and-make (and-l (linked t u u') (X u) (w .2)) (sub u (and-r (linked t u u') (X u) (w .2))))))
+      (or-take (eqb u' 0) (anyBelow (states t) (λ u. linked t u u' && X u)) h)
 
   pub reached-inside : (u : ℕ) → reached t u ≡ true → u < states t
   unfolding reached
@@ -40,12 +40,12 @@ module _ (t : Trigger) where
 
   -- State One is reached, and so is what a reached state links to
   pub reached-one : 0 < states t → reached t 0 ≡ true
-  reached-one l = closed 0 l (or-l (anyBelow (states t) (λ u. reached t u && linked t u 0)) refl)
+  reached-one l = closed 0 l (or-l (anyBelow (states t) (λ u. linked t u 0 && reached t u)) refl)
 
   pub reached-link : (u u' : ℕ) → u' < states t → reached t u ≡ true → linked t u u' ≡ true → reached t u' ≡ true
   reached-link u u' l h k =
       closed u' l
-      (or-r (eqb u' 0) (any-make (states t) (λ u. reached t u && linked t u u') u (reached-inside u h) (and-make h k)))
+      (or-r (eqb u' 0) (any-make (states t) (λ u. linked t u u' && reached t u) u (reached-inside u h) (and-make k h)))
 
   -- and nothing else
   pub reached-least : (R : ℕ → Type 0) → (0 < states t → R 0) → ((u u' : ℕ) → R u → u' < states t → linked t u u' ≡ true → R u')
@@ -57,10 +57,10 @@ module _ (t : Trigger) where
       ⊎-elim
       (λ (e : eqb u' 0 ≡ true). let z = eqb-true u' 0 e in rw z (first (rw z at l)))
       (λ e.
-      let w = any-take (states t) (λ u. X u && linked t u u') e in
+      let w = any-take (states t) (λ u. linked t u u' && X u) e in
       let u = w .0 in
-      next u u' (sub u (and-l (X u) (linked t u u') (w .2))) l (and-r (X u) (linked t u u') (w .2)))
-      (or-take (eqb u' 0) (anyBelow (states t) (λ u. X u && linked t u u')) h))
+      next u u' (sub u (and-r (linked t u u') (X u) (w .2))) l (and-l (linked t u u') (X u) (w .2)))
+      (or-take (eqb u' 0) (anyBelow (states t) (λ u. linked t u u' && X u)) h))
 
   chain-reached : {u : ℕ} → Reached t u → reached t u ≡ true
   chain-reached (one l) = reached-one l
@@ -77,4 +77,4 @@ pub reached-same : (t t' : Trigger) → states t ≡ states t' → t .links ≡ 
 unfolding reached linked
 reached-same t t' count links =
     ap₂
-    (λ (n : ℕ) (ls : List ℕ). grown n (λ X u'. eqb u' 0 || anyBelow n (λ u. X u && members (getD ls u 0) u'))) count links
+    (λ (n : ℕ) (ls : List ℕ). grown n (λ X u'. eqb u' 0 || anyBelow n (λ u. members (getD ls u 0) u' && X u))) count links

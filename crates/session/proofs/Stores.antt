@@ -13,7 +13,7 @@ use Rattle.bits.specs.Word.{members, word}
 use Rattle.bits.proofs.Words.{same-members, word-members, zero-members}
 use Rattle.session.specs.Limits.{maxStates, maxNodes, maxEdges, invertedAt, masksAt, marksAt, fixedSize}
 use Rattle.session.specs.Trigger.{Trigger, Graph, Marks, states, nodes}
-use Rattle.session.specs.Layout.{table, section, markWord, image}
+use Rattle.session.specs.Layout.{table, section, markWord, image, imageFor}
 use Rattle.session.proofs.Tables.{length-section, table-of, table-same}
 use Rattle.session.proofs.Image.{drop-image}
 
@@ -34,7 +34,7 @@ unfolding front
 length-front t g = simp (length-append, length-section)
 
 pub image-front : (t : Trigger) (g : Graph) (m : Marks) → image t g m ≡ front t g ++ table maxNodes (markWord t g m)
-unfolding front image
+unfolding front imageFor
 image-front t g m = simp append-assoc
 
 -- ---- the marks anew

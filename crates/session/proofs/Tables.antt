@@ -85,6 +85,14 @@ pub below-make : (n : ℕ) (xs : List ℕ) → ((i : ℕ) → i < length xs → 
 unfolding below
 below-make n xs h = all-make (length xs) (λ i. ltb (getD xs i 0) n) (λ i l. lt-ltb (getD xs i 0) n (h i l))
 
+-- of a part of a list too
+pub below-part : (n p k : ℕ) (xs : List ℕ) → below n xs ≡ true → p + k ≤ length xs → below n (take k (drop p xs)) ≡ true
+below-part n p k xs h l =
+    below-make n (take k (drop p xs))
+    (λ i m.
+    let few : i < k = omega (arith, length-take k (drop p xs)) in
+    rw (getD-take k (drop p xs) i 0 few, getD-drop p xs i 0) (below-take n xs h (p + i) (omega arith)))
+
 pub table-below : (n k : ℕ) (f : ℕ → ℕ) → ((i : ℕ) → f i < n) → below n (table k f) ≡ true
 table-below n k f h =
     below-make n (table k f) (λ i l. let here = getD-table k f i (rw (length-table k f) at l) in omega (arith, here, h i))
@@ -108,7 +116,7 @@ and-swap : (a b c : Bool) → (a && (b && c)) ≡ (b && (a && c))
 and-swap true b c = refl
 and-swap false b c = sym (and-false b)
 
-all-add : (n m : ℕ) (P : Set) → allBelow (m + n) P ≡ (allBelow m P && allBelow n (λ j. P (m + j)))
+pub all-add : (n m : ℕ) (P : Set) → allBelow (m + n) P ≡ (allBelow m P && allBelow n (λ j. P (m + j)))
 unfolding allBelow
 all-add zero m P = rw add-zero (sym (and-true (allBelow m P)))
 all-add (suc n) m P =

@@ -18,7 +18,7 @@ use Rattle.session.specs.Limits.{
   linksAt,
   samplesAt,
   edgesAt,
-  marksAt,
+  marksFor,
   fixedSize,
 }
 use Rattle.session.specs.Trigger.{Trigger, Graph, Marks, states, nodes, edgeNumber, admits}
@@ -40,14 +40,16 @@ section n xs = table n (λ i. getD xs i 0)
 unfoldable pub markWord : Trigger → Graph → Marks → ℕ → ℕ
 markWord t g m v = word (states t) (λ u. ltb v (nodes g) && m u v)
 
--- the fixed part of a session that holds this trigger, this graph and these marks
-unfoldable pub image : Trigger → Graph → Marks → List ℕ
-image t g m =
+-- the fixed part of a session that holds this trigger, this graph and these marks, with k places for the states
+unfoldable pub imageFor : ℕ → Trigger → Graph → Marks → List ℕ
+imageFor k t g m =
     (states t ∷ nodes g ∷ length (g .edges) ∷ t .inverted ∷ [])
-    ++ (section maxStates (t .masks)
-    ++ (section maxStates (t .values)
-    ++ (section maxStates (t .links)
-    ++ (section maxNodes (g .samples) ++ (section maxEdges (g .edges) ++ table maxNodes (markWord t g m))))))
+    ++ (section k (t .masks)
+    ++ (section k (t .values)
+    ++ (section k (t .links) ++ (section maxNodes (g .samples) ++ (section maxEdges (g .edges) ++ table maxNodes (markWord t g m))))))
+
+abbrev pub image : Trigger → Graph → Marks → List ℕ
+image = imageFor maxStates
 
 -- what a memory holds
 abbrev pub part : List ℕ → ℕ → ℕ → List ℕ
@@ -61,8 +63,11 @@ triggerOf xs =
 unfoldable pub graphOf : List ℕ → Graph
 graphOf xs = record { samples = part xs samplesAt (getD xs 1 0); edges = part xs edgesAt (getD xs 2 0) }
 
-unfoldable pub marksOf : List ℕ → Marks
-marksOf xs u v = ltb u (getD xs 0 0) && (ltb v (getD xs 1 0) && members (getD xs (marksAt + v) 0) u)
+unfoldable pub marksIn : ℕ → List ℕ → Marks
+marksIn k xs u v = ltb u (getD xs 0 0) && (ltb v (getD xs 1 0) && members (getD xs (marksFor k + v) 0) u)
+
+abbrev pub marksOf : List ℕ → Marks
+marksOf = marksIn maxStates
 
 -- every entry of the list is below n
 unfoldable pub below : ℕ → List ℕ → Bool

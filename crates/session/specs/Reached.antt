@@ -14,7 +14,7 @@ pub data Reached (t : Trigger) : ℕ → Type 0 where
 
 -- the set of them, computed. That it has just the states with a chain is proved in proofs/Reached.
 unfoldable pub reached : Trigger → Set
-reached t = grown (states t) (λ X u'. eqb u' 0 || anyBelow (states t) (λ u. X u && linked t u u'))
+reached t = grown (states t) (λ X u'. eqb u' 0 || anyBelow (states t) (λ u. linked t u u' && X u))
 
 -- a trigger with these links: what is reached, and the walk order, depend on nothing else
 abbrev pub linkedBy : List ℕ → Trigger

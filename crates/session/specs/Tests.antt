@@ -6,10 +6,10 @@ use lib.Dec.{ltb}
 use lib.ListN.{length, getD}
 use Rattle.simulation.specs.Sets.{Set, allBelow}
 use Rattle.simulation.specs.Ordered.{ascends}
-use Rattle.bits.specs.Word.{members}
+use Rattle.bits.specs.Word.{members, halfBits}
 use Rattle.session.specs.Limits.{maxStates, maxNodes, maxEdges, wordBits, invertedAt, masksAt, valuesAt, linksAt, samplesAt, edgesAt, marksAt}
 use Rattle.session.specs.Trigger.{accepts}
-use Rattle.session.specs.Layout.{part, below}
+use Rattle.session.specs.Layout.{table, part, below}
 
 -- a section: the words before `used` are below 2 ^ k, and those from it on are zero
 unfoldable pub fits : ℕ → ℕ → List ℕ → Bool
@@ -18,6 +18,10 @@ fits k used xs = allBelow (length xs) (λ i. ltb (getD xs i 0) (cond (ltb i used
 -- each edge joins two of this many nodes
 unfoldable pub allNamed : ℕ → List ℕ → Bool
 allNamed nodes es = allBelow (length es) (λ k. ltb (getD es k 0 / maxNodes) nodes && ltb (getD es k 0 % maxNodes) nodes)
+
+-- of each word the half that begins at the bit `from`
+abbrev pub halves : ℕ → List ℕ → List ℕ
+halves from xs = table (length xs) (λ i. getD xs i 0 / 2 ^ from % 2 ^ halfBits)
 
 -- no mark of the state u is at a sample that fails the test
 unfoldable pub sparse : List ℕ → List ℕ → Set → ℕ → Bool

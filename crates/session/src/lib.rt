@@ -1,7 +1,7 @@
 // The session in lent memory: its limits, and the places of its sections. What it holds is defined in specs/.
 
 // The limits, and the places of the sections. An edge is the number start * EDGE_BASE + end.
-pub const MAX_STATES: usize = 16;
+pub const MAX_STATES: usize = 32;
 
 pub const MAX_NODES: usize = 512;
 

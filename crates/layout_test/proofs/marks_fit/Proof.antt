@@ -6,7 +6,7 @@ use mathlib.Core.Path.{_≡_, sym, _∙_}
 use Rattle.session.specs.Limits.{maxNodes, marksAt, masksAt, valuesAt, samplesAt}
 use Rattle.session.specs.Layout.{part}
 use Rattle.session.specs.Tests.{fits, marksTest}
-use Rattle.layout_test.proofs.Tested.{part-length, test-marks, fits-unions}
+use Rattle.layout_test.proofs.Tested.{part-length, fits-unions}
 use Rattle.layout_test.proofs.marks_fit.Statement.{statement}
 use Rattle.layout_test.proofs.marks_fit.Tie as tie
 
@@ -113,8 +113,7 @@ all-admitted-requires c κs =
     let s = g .before .before .before in
     let n = s .args .states in
     let m = s .args .nodes in
-    let xs = s .args .session .now in
-    let small = test-marks xs n m (sym (whole (one .before)) ∙ one .if1 .taken) (omega arith) (omega arith) (omega arith) in (
+    let xs = s .args .session .now in (
       (
         simp add-sub-cancel-left (part-length xs samplesAt m (omega arith) ∙ sym (part-length xs marksAt m (omega arith))),
         simp add-sub-cancel-left (part-length xs valuesAt n (omega arith) ∙ sym (part-length xs masksAt n (omega arith))),
@@ -123,7 +122,7 @@ all-admitted-requires c κs =
       (
         simp add-sub-cancel-left (s .pre .1 .0),
         (
-          (simp add-sub-cancel-left (s .pre .1 .1), simp add-sub-cancel-left small, simp add-sub-cancel-left (omega (arith, part-length xs marksAt m (omega arith)))),
+          (simp add-sub-cancel-left (s .pre .1 .1), simp add-sub-cancel-left (omega (arith, part-length xs marksAt m (omega arith)))),
           simp add-sub-cancel-left (simp add-sub-cancel-left at (g .gathered .ensures)),
         ),
       ),

@@ -2,6 +2,7 @@
 use native.Mathlib.Omega.{arith}
 use native.Mathlib.Omega.{arith}
 use mathlib.Core.Path.{_∙_}
+use Rattle.bits.specs.Word.{setBits}
 use Rattle.links.proofs.CallerTables.{callers-linked}
 use borrow.Author.Needs.{needs}
 use Rattle.links.proofs.calling.Statement.{statement}
@@ -28,7 +29,7 @@ linked-requires c κs = omega (arith, c .before .before .before .before .before 
 returns-3 : tie.Need-returns-3
 returns-3 c =
     let s = c .before .before .before .before .before .before in
-    c .linked .ensures ∙ callers-linked (s .args .links .now) (s .args .callers .now) (s .pre .1 (c .before .before .before .if1 .left)) (s .args .word)
+    c .linked .ensures ∙ callers-linked setBits (s .args .links .now) (s .args .callers .now) (s .pre .1 (c .before .before .before .if1 .left)) (s .args .word)
 
 pub calling-spec : {M : Type 1} → statement M
 calling-spec =

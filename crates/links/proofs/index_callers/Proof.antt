@@ -1,5 +1,6 @@
 -- `index_callers` meets its contract: before state u the states below it are in the words of their targets.
 use Prim.Native.Nat.{_-_}
+use Rattle.bits.specs.Word.{setBits}
 use Rattle.links.proofs.CallerTables.{Called, called-start, called-more, called-end}
 use borrow.Author.Needs.{needs}
 use lib.ListN.{length}
@@ -8,13 +9,13 @@ use Rattle.links.proofs.index_callers.Statement.{statement}
 use Rattle.links.proofs.index_callers.Tie as tie
 
 abbrev Inv-loop : tie.InvT-loop
-Inv-loop links callers₀ u₀ callers u = Called links u callers
+Inv-loop links callers₀ u₀ callers u = Called setBits links u callers
 
 abbrev μ-loop : tie.MeasureT-loop
 μ-loop links callers₀ u₀ callers u = length links - u
 
 loop-holds : tie.Need-loop-holds Inv-loop μ-loop
-loop-holds c = let s = c .before .before in called-start (s .args .links .now) (s .pre .1) (s .pre .2)
+loop-holds c = let s = c .before .before in called-start setBits (s .args .links .now) (s .pre .1) (s .pre .2)
 
 mul-call-for : tie.Need-mul-call-for Inv-loop μ-loop
 mul-call-for c = search needs
@@ -38,13 +39,13 @@ loop-again : tie.Need-loop-again Inv-loop μ-loop
 loop-again c =
     let h = c .before .before .before .before .before .before in
     let call = c .before .before .call-for in
-    called-more (h .before .before .before .args .links .now) (h .loop .inv) (omega arith) (call .kept .0) (call .ensures)
+    called-more setBits (h .before .before .before .args .links .now) (h .loop .inv) (omega arith) (call .kept .0) (call .ensures)
 
 same-length : tie.Need-same-length Inv-loop μ-loop
 same-length c = search needs
 
 returns : tie.Need-returns Inv-loop μ-loop
-returns c = let l = c .before .loop in called-end (c .before .before .before .before .args .links .now) (l .inv) (omega (arith, l .inv .few))
+returns c = let l = c .before .loop in called-end setBits (c .before .before .before .before .args .links .now) (l .inv) (omega (arith, l .inv .few))
 
 pub index-callers-spec : {M : Type 1} → statement M
 index-callers-spec =

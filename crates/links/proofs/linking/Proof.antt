@@ -1,6 +1,6 @@
 -- `linking` meets its contract: before state u the states below it are those with a link to a state of the word.
 use Prim.Native.Nat.{_-_, _≤_}
-use Rattle.bits.specs.Word.{members}
+use Rattle.bits.specs.Word.{members, setBits}
 use Rattle.links.proofs.LinkSets.{linkedTo, linked-none, linked-more, linked-pass}
 use borrow.Author.Needs.{needs}
 use lib.ListN.{length}
@@ -11,13 +11,13 @@ use Rattle.links.proofs.linking.Statement.{statement}
 use Rattle.links.proofs.linking.Tie as tie
 
 abbrev Inv-loop : tie.InvT-loop
-Inv-loop links word all₀ u₀ all u = (u ≤ length links) × (members all ≡ linkedTo links word u)
+Inv-loop links word all₀ u₀ all u = (u ≤ length links) × (members all ≡ linkedTo setBits links word u)
 
 abbrev μ-loop : tie.MeasureT-loop
 μ-loop links word all₀ u₀ all u = length links - u
 
 loop-holds : tie.Need-loop-holds Inv-loop μ-loop
-loop-holds c = let a = c .before .args in (search needs, linked-none (a .links .now) (a .word))
+loop-holds c = let a = c .before .args in (search needs, linked-none setBits (a .links .now) (a .word))
 
 mul-meet : tie.Need-mul-meet Inv-loop μ-loop
 mul-meet c = search needs
@@ -47,8 +47,8 @@ loop-again c =
     let meet = c .before .meet in (
       search needs,
       ⊎-elim
-          (λ w. ap members (w .2) ∙ linked-more (a .links .now) (a .word) (h .loop .u) (h .loop .all) (h .loop .inv .1) (w .1 .result) (sym (meet .ensures) ∙ w .0 .taken) (w .1 .ensures))
-          (λ w. ap members (w .1) ∙ linked-pass (a .links .now) (a .word) (h .loop .u) (h .loop .all) (h .loop .inv .1) (sym (meet .ensures) ∙ w .0 .left))
+          (λ w. ap members (w .2) ∙ linked-more setBits (a .links .now) (a .word) (h .loop .u) (h .loop .all) (h .loop .inv .1) (w .1 .result) (sym (meet .ensures) ∙ w .0 .taken) (w .1 .ensures))
+          (λ w. ap members (w .1) ∙ linked-pass setBits (a .links .now) (a .word) (h .loop .u) (h .loop .all) (h .loop .inv .1) (sym (meet .ensures) ∙ w .0 .left))
           (c .if1 .came),
     )
 
@@ -56,7 +56,7 @@ returns : tie.Need-returns Inv-loop μ-loop
 returns c =
     let h = c .before in
     let a = h .before .before .args in
-    h .loop .inv .1 ∙ ap (linkedTo (a .links .now) (a .word)) (omega arith)
+    h .loop .inv .1 ∙ ap (linkedTo setBits (a .links .now) (a .word)) (omega arith)
 
 pub linking-spec : {M : Type 1} → statement M
 linking-spec =

@@ -12,7 +12,7 @@ use Rattle.links.proofs.unlinked.Statement.{statement}
 use Rattle.links.proofs.unlinked.Tie as tie
 
 abbrev Inv-loop : tie.InvT-loop
-Inv-loop links word others left₀ rest₀ left rest = Thinned links word others left rest
+Inv-loop links word others left₀ rest₀ left rest = Thinned setBits links word others left rest
 
 abbrev μ-loop : tie.MeasureT-loop
 μ-loop links word others left₀ rest₀ left rest = count setBits (members rest)
@@ -30,7 +30,7 @@ below-requires c κs = search needs
 loop-holds : tie.Need-loop-holds Inv-loop μ-loop
 loop-holds c =
     let a = c .before .before .args in
-    thinned-start (a .links .now) (a .word) (a .others) _
+    thinned-start setBits (a .links .now) (a .word) (a .others) _
     (λ u. and-members (a .word) (c .below .result) u ∙ ap (λ (X : Set). members (a .word) u && X u) (c .below .ensures .1))
 
 lowest-requires : tie.Need-lowest-requires Inv-loop μ-loop
@@ -64,11 +64,11 @@ loop-again c =
     let low = c .before .before .before .before .lowest in
     let met = c .before .before .meet in
     ⊎-elim
-    (λ w. subst (λ (x : _). Thinned (a .links .now) (a .word) (a .others) x (c .without-lowest .result)) (sym (w .2))
-    (thinned-out (a .links .now) (a .word) (a .others) (h .loop .left) (h .loop .rest) (h .loop .inv) (low .result) (c .without-lowest .result) (low .ensures .1) (gone c)
+    (λ w. subst (λ (x : _). Thinned setBits (a .links .now) (a .word) (a .others) x (c .without-lowest .result)) (sym (w .2))
+    (thinned-out setBits (a .links .now) (a .word) (a .others) (h .loop .left) (h .loop .rest) (h .loop .inv) (low .result) (c .without-lowest .result) (low .ensures .1) (gone c)
     (sym (met .ensures) ∙ w .0 .taken) (w .1 .result) (w .1 .ensures)))
-    (λ w. subst (λ (x : _). Thinned (a .links .now) (a .word) (a .others) x (c .without-lowest .result)) (sym (w .1))
-    (thinned-pass (a .links .now) (a .word) (a .others) (h .loop .left) (h .loop .rest) (h .loop .inv) (low .result) (c .without-lowest .result) (low .ensures .1) (gone c)
+    (λ w. subst (λ (x : _). Thinned setBits (a .links .now) (a .word) (a .others) x (c .without-lowest .result)) (sym (w .1))
+    (thinned-pass setBits (a .links .now) (a .word) (a .others) (h .loop .left) (h .loop .rest) (h .loop .inv) (low .result) (c .without-lowest .result) (low .ensures .1) (gone c)
     (sym (met .ensures) ∙ w .0 .left)))
     (c .before .if1 .came)
 
@@ -76,7 +76,7 @@ returns : tie.Need-returns Inv-loop μ-loop
 returns c =
     let h = c .before in
     let a = c .before .before .before .before .args in
-    thinned-done (a .links .now) (a .word) (a .others) (h .loop .left) (h .loop .rest) (h .loop .inv) (c .loop-test .left)
+    thinned-done setBits (a .links .now) (a .word) (a .others) (h .loop .left) (h .loop .rest) (h .loop .inv) (c .loop-test .left)
 
 pub unlinked-spec : {M : Type 1} → statement M
 unlinked-spec =

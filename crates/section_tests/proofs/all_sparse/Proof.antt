@@ -135,7 +135,7 @@ loop-again c =
     (λ w.
     rw (w .1)
     (fold-pass P n (l .faults) (l .u) (l .inv) (omega arith)
-    (sparse-none (a .samples .now) (a .marks .now) (matches wordBits (members (a .turned) (l .u)) mask value) (a .used) (l .u) (start t .pre .1 .1) (sym (c .before .has .ensures) ∙ w .0 .left)))))
+    (sparse-none (a .samples .now) (a .marks .now) (matches wordBits (members (a .turned) (l .u)) mask value) (l .u) (sym (start t .pre .1 .1 (l .u) (omega arith)) ∙ sym (c .before .has .ensures) ∙ w .0 .left)))))
     (c .if1 .came)
 
 returns : tie.Need-returns Inv-loop μ-loop
