@@ -52,7 +52,7 @@ pub fn put_pair(out: &mut [u8], at: usize, first: u32, second: u32) -> usize
 
 // Writes the line of a report.
 pub fn put_report(out: &mut [u8], at: usize, fires: bool, trials: u32, changes: u32) -> usize
-    requires { ⌜ at + 13 ≤ length (now out) ⌝ }
+    requires { ⌜ at + o.reportSize ≤ length (now out) ⌝ }
     ensures { λ r. ⌜ Placed (now (out .entry)) at (o.reportLine fires trials changes) (now (out .exit)) r ⌝ }
 {
     let next = put_head(out, at, 128, fires as u32);
@@ -73,7 +73,7 @@ pub fn complement(change: i32) -> u32
 
 // Writes the line of a change.
 pub fn put_change(out: &mut [u8], at: usize, change: i32) -> usize
-    requires { ⌜ at + 11 ≤ length (now out) ⌝ }
+    requires { ⌜ at + o.changeSize ≤ length (now out) ⌝ }
     ensures { λ r. ⌜ Placed (now (out .entry)) at (o.changed change) (now (out .exit)) r ⌝ }
 {
     let bits = complement(change);
@@ -84,7 +84,7 @@ pub fn put_change(out: &mut [u8], at: usize, change: i32) -> usize
 
 // Writes a line for each change.
 pub fn put_changes(out: &mut [u8], at: usize, list: &[i32]) -> usize
-    requires { ⌜ at + 11 * length (now list) ≤ length (now out) ⌝ }
+    requires { ⌜ at + o.changeSize * length (now list) ≤ length (now out) ⌝ }
     ensures { λ r. ⌜ Placed (now (out .entry)) at (o.each o.changed (now (list .entry))) (now (out .exit)) r ⌝ }
 {
     let mut next = at;
@@ -122,7 +122,7 @@ pub fn put_order(out: &mut [u8], at: usize, states: &[u8]) -> usize
 
 // Writes the lines of an answer with the changes of a room.
 pub fn put_answer(out: &mut [u8], answer: Answer, room: &[i32]) -> usize
-    requires { ⌜ 13 + 11 * length (handedBack (now room) answer) ≤ length (now out) ⌝ }
+    requires { ⌜ o.reportSize + o.changeSize * length (handedBack (now room) answer) ≤ length (now out) ⌝ }
     ensures { λ r. ⌜ Placed (now (out .entry)) 0 (o.answered (told answer) (handedBack (now (room .entry)) answer)) (now (out .exit)) r ⌝ }
 {
     match answer {

@@ -40,9 +40,9 @@ pub fn hexadecimal(line: &[u8]) -> bool
     faults == 0
 }
 
-// The number that the digits write, the most significant first.
+// The number that eight digits or fewer write, the most significant first.
 pub fn number(digits: &[u8]) -> u32
-    requires { ⌜ (length (now digits) ≤ 4) × (d.hexadecimal (now digits) ≡ true) ⌝ }
+    requires { ⌜ (length (now digits) ≤ 8) × (d.hexadecimal (now digits) ≡ true) ⌝ }
     ensures { λ r. ⌜ r ≡ d.number (now (digits .entry)) ⌝ }
 {
     let mut value = 0;
@@ -54,7 +54,7 @@ pub fn number(digits: &[u8]) -> u32
     value
 }
 
-// The same, as a word of 16 bits.
+// The same of four digits or fewer, as a word of 16 bits.
 pub fn half(digits: &[u8]) -> u16
     requires { ⌜ (length (now digits) ≤ 4) × (d.hexadecimal (now digits) ≡ true) ⌝ }
     ensures { λ r. ⌜ r ≡ d.number (now (digits .entry)) ⌝ }

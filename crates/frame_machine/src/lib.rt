@@ -8,14 +8,17 @@ ghost use Rattle.frames.specs.Machine as m;
 use frame_reading::read_frame;
 use frames::Taken;
 use frames_after_run::after_run;
+use frames_before_run::LINKS_IN;
+use frames_before_run::SAMPLES_IN;
 use frames_before_run::before_run;
 
 // How long the lent memory is at least.
-pub const COUNTS_SIZE: usize = 20;
+pub const COUNTS_SIZE: usize = LINKS_IN + session::MAX_STATES;
 
-pub const WORDS_SIZE: usize = 544;
+pub const WORDS_SIZE: usize = SAMPLES_IN + session::MAX_NODES;
 
-pub const OUTPUT_SIZE: usize = 90125;
+// The longest answer: a report, and a line for each change.
+pub const OUTPUT_SIZE: usize = 13 + 11 * session::MAX_CHANGES;
 
 // Whether the lent memory is too short.
 pub fn too_small(counts: usize, words: usize, session: usize, room: usize, out: usize) -> bool

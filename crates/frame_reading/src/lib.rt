@@ -1,6 +1,8 @@
 // A line of bytes is read as a frame.
 ghost use mathlib.Core.Path.{_≡_};
 ghost use mathlib.Core.Bool.{true, cond};
+ghost use Prim.Native.Nat.{_+_, _≤_};
+ghost use lib.ListN.{length};
 ghost use Rattle.frames.specs.Digits as d;
 ghost use Rattle.frames.specs.Frames as f;
 use digits::half;
@@ -10,6 +12,25 @@ use frames::Edge;
 use frames::Frame;
 use frames::State;
 
+// The state whose mask, value and links, of so many digits, stand in the fields from a place on.
+fn state_at(fields: &[u8], at: usize, digits: usize, inverted: bool) -> Frame
+    requires { ⌜ (d.hexadecimal (now fields) ≡ true) × (digits ≤ 8) × (at + (8 + digits) ≤ length (now fields)) ⌝ }
+    ensures { λ r. ⌜ f.said r ≡ f.state inverted (f.field 4 (now (fields .entry)) at) (f.field 4 (now (fields .entry)) (at + 4)) (f.field digits (now (fields .entry)) (at + 8)) ⌝ }
+{
+    let value_at = at + 4;
+    let links_at = at + 8;
+    let links_end = links_at + digits;
+    let mask = half(&fields[at..value_at]);
+    let value = half(&fields[value_at..links_at]);
+    let links = number(&fields[links_at..links_end]);
+    Frame::State(State {
+        mask,
+        value,
+        links,
+        inverted,
+    })
+}
+
 // The fields of a state, plain or inverted: mask, value, links.
 pub fn state_frame(fields: &[u8], inverted: bool) -> Frame
     requires { ⌜ d.hexadecimal (now fields) ≡ true ⌝ }
@@ -18,15 +39,22 @@ pub fn state_frame(fields: &[u8], inverted: bool) -> Frame
     if fields.len() != 12 {
         return Frame::Nothing;
     }
-    let mask = half(&fields[0..4]);
-    let value = half(&fields[4..8]);
-    let links = number(&fields[8..12]);
-    Frame::State(State {
-        mask,
-        value,
-        links,
-        inverted,
-    })
+    state_at(fields, 0, 4, inverted)
+}
+
+// The fields of a state with 32 bits of links: inversion, mask, value, links.
+pub fn wide_frame(fields: &[u8]) -> Frame
+    requires { ⌜ d.hexadecimal (now fields) ≡ true ⌝ }
+    ensures { λ r. ⌜ f.said r ≡ f.spoken 10 (now (fields .entry)) ⌝ }
+{
+    if fields.len() != 18 {
+        return Frame::Nothing;
+    }
+    let inversion = number(&fields[0..2]);
+    if 1 < inversion {
+        return Frame::Nothing;
+    }
+    state_at(fields, 2, 8, inversion == 1)
 }
 
 // The field of a node: its sample.
@@ -80,6 +108,7 @@ pub fn spoken(kind: u32, fields: &[u8]) -> Frame
         5 => edge_frame(fields, false),
         6 => bare_frame(fields, false),
         7 => state_frame(fields, true),
+        10 => wide_frame(fields),
         _ => Frame::Nothing,
     }
 }

@@ -14,20 +14,29 @@ use Rattle.simulation.proofs.Sets.{clash, and-none}
 use Rattle.simulation.proofs.Search.{lt-or-le}
 use Rattle.frames.specs.Digits.{hexadecimal, number}
 use Rattle.frames.specs.Frames.{nothing, spoken, frameOf}
-use Rattle.frames.specs.Lines.{linesAfter, lineEnds, lineIn, frontSize, frontWith, Keeps, Gathers}
+use Rattle.frames.specs.Lines.{linesAfter, lineEnds, lineIn, longestFrame, frontSize, frontWith, Keeps, Gathers}
 
 -- ---- the front of a line tells its frame
 
 -- more fields than any kind has
-spoken-long : (kind : ℕ) (ds : List ℕ) → 12 < length ds → spoken kind ds ≡ nothing
+spoken-long : (kind : ℕ) (ds : List ℕ) → longestFrame < 2 + length ds → spoken kind ds ≡ nothing
 unfolding spoken
 spoken-long kind ds l =
-    let other : (n : ℕ) → n ≤ 12 → eqb (length ds) n ≡ false = λ n h. ne-eqb (length ds) n (λ e. absurd (omega arith)) in
-    let no : (k n : ℕ) → n ≤ 12 → (eqb kind k && eqb (length ds) n) ≡ false = λ k n h. and-none (eqb kind k) (other n h) in
-    rw (no 1 12 (omega arith), no 2 4 (omega arith), no 3 0 (omega arith), no 4 8 (omega arith), no 5 8 (omega arith), no 6 0 (omega arith), no 7 12 (omega arith))
+    let other : (n : ℕ) → 2 + n ≤ longestFrame → eqb (length ds) n ≡ false = λ n h. ne-eqb (length ds) n (λ e. absurd (omega arith)) in
+    let no : (k n : ℕ) → 2 + n ≤ longestFrame → (eqb kind k && eqb (length ds) n) ≡ false = λ k n h. and-none (eqb kind k) (other n h) in
+    rw (
+      no 1 12 (omega arith),
+      no 2 4 (omega arith),
+      no 3 0 (omega arith),
+      no 4 8 (omega arith),
+      no 5 8 (omega arith),
+      no 6 0 (omega arith),
+      no 7 12 (omega arith),
+      no 10 18 (omega arith),
+    )
 
 -- a line longer than any frame is none
-line-long : (line : List ℕ) → 14 < length line → frameOf line ≡ nothing
+line-long : (line : List ℕ) → longestFrame < length line → frameOf line ≡ nothing
 unfolding frameOf
 line-long line l = by (leb 2 (length line) && hexadecimal line)
   where
@@ -37,7 +46,7 @@ line-long line l = by (leb 2 (length line) && hexadecimal line)
 
 -- the front kept of a line, and the line: the same, or both longer than any frame
 abbrev pub Like : List ℕ → List ℕ → Type 0
-Like front line = (front ≡ line) ⊎ ((14 < length front) × (14 < length line))
+Like front line = (front ≡ line) ⊎ ((longestFrame < length front) × (longestFrame < length line))
 
 pub like-frame : (front line : List ℕ) → Like front line → frameOf front ≡ frameOf line
 like-frame front line h = ⊎-elim (λ e. ap frameOf e) (λ l. line-long front (l .0) ∙ sym (line-long line (l .1))) h

@@ -1,6 +1,6 @@
 -- Digits by their byte, and a number read digit by digit.
 use Prim.Native.Nat.{ℕ, zero, suc, _+_, _-_, _*_, _^_, _<_, _≤_}
-use native.Mathlib.Nat.{pow-suc}
+use native.Mathlib.Nat.{lt-of-lt-of-le, pow-le-pow-right, pow-suc}
 use native.Mathlib.Omega.{arith}
 use native.Mathlib.Numerals.{add-one}
 use mathlib.Core.Path.{_≡_, refl, sym, _∙_, ap, subst}
@@ -63,26 +63,21 @@ module _ (ds : List ℕ) (hex : hexadecimal ds ≡ true) where
   unfolding numberFrom
   reading-end v k r l = sym (ap (numberFrom v) (drop-of-length-le ds l)) ∙ r .rest
 
--- four digits and fewer fit a word
-pub reading-fits : (ds : List ℕ) (v k : ℕ) → Reading ds v k → length ds ≤ 4 → k < length ds → v < 4096
-reading-fits ds v zero r few l = omega (arith, r .small)
-reading-fits ds v (suc zero) r few l = omega (arith, r .small)
-reading-fits ds v (suc (suc zero)) r few l = omega (arith, r .small)
-reading-fits ds v (suc (suc (suc zero))) r few l = omega (arith, r .small)
-reading-fits ds v (suc (suc (suc (suc k)))) r few l = absurd (omega arith)
+-- one digit more than k fits n digits, where n is more than k
+pub reading-fits : (ds : List ℕ) (v k n : ℕ) → Reading ds v k → k < n → v * 16 + 15 < 16 ^ n
+reading-fits ds v k n r l =
+    let grows : 16 ^ suc k ≤ 16 ^ n = pow-le-pow-right (omega arith) l in
+    omega (arith, r .small, pow-suc 16 k, grows)
 
--- and four digits make a word of 16 bits
-pub number-fits : (ds : List ℕ) → hexadecimal ds ≡ true → length ds ≤ 4 → number ds < 65536
-number-fits ds hex few = by (length ds) refl few (whole (length ds) (omega arith))
+-- and n digits or fewer make a number below 16 ^ n
+pub number-fits : (ds : List ℕ) (n : ℕ) → hexadecimal ds ≡ true → length ds ≤ n → number ds < 16 ^ n
+number-fits ds n hex few =
+    let w = whole (length ds) (omega arith) in
+    lt-of-lt-of-le (rw (← reading-end ds hex (w .0) (length ds) (w .1) (omega arith)) (w .1 .small)) (pow-le-pow-right (omega arith) few)
   where
     whole : (k : ℕ) → k ≤ length ds → (v : ℕ) × Reading ds v k
     whole zero l = (0, reading-start ds hex)
-    whole (suc k) l = let w = whole k (omega arith) in (w .0 * 16 + digit (getD ds k 0), subst (λ (j : ℕ). Reading ds (w .0 * 16 + digit (getD ds k 0)) j) (add-one k) (reading-more ds hex (w .0) k (w .1) (omega arith)))
-
-    by : (n : ℕ) → length ds ≡ n → n ≤ 4 → ((v : ℕ) × Reading ds v n) → number ds < 65536
-    by zero e l w = rw (← reading-end ds hex (w .0) 0 (w .1) (omega arith)) (omega (arith, w .1 .small))
-    by (suc zero) e l w = rw (← reading-end ds hex (w .0) 1 (w .1) (omega arith)) (omega (arith, w .1 .small))
-    by (suc (suc zero)) e l w = rw (← reading-end ds hex (w .0) 2 (w .1) (omega arith)) (omega (arith, w .1 .small))
-    by (suc (suc (suc zero))) e l w = rw (← reading-end ds hex (w .0) 3 (w .1) (omega arith)) (omega (arith, w .1 .small))
-    by (suc (suc (suc (suc zero)))) e l w = rw (← reading-end ds hex (w .0) 4 (w .1) (omega arith)) (omega (arith, w .1 .small))
-    by (suc (suc (suc (suc (suc n))))) e l w = absurd (omega arith)
+    whole (suc k) l =
+        let w = whole k (omega arith) in
+        let v = w .0 * 16 + digit (getD ds k 0) in
+        (v, subst (Reading ds v) (add-one k) (reading-more ds hex (w .0) k (w .1) (omega arith)))

@@ -12,7 +12,7 @@ use lib.Seq.{take-suc, take-all, length-take-le}
 use Rattle.listing.specs.Placed.{Placed}
 use Rattle.listing.proofs.Placing.{placed-start, placed-append, placed-long}
 use Rattle.frames.specs.Digits.{digits}
-use Rattle.frames.specs.Outputs.{complement, reportLine, changed, each}
+use Rattle.frames.specs.Outputs.{complement, reportLine, reportSize, changed, changeSize, each}
 use Rattle.frames.proofs.Written.{digits-long, pair-long}
 
 module _ {A : Type 0} (f : A → List ℕ) where
@@ -62,8 +62,8 @@ module _ {A : Type 0} (f : A → List ℕ) where
     pub listing-end : (out : List ℕ) (next k : ℕ) → Listing xs entry at out next k → length xs ≤ k → Placed entry at (each f xs) out next
     listing-end out next k l all = subst (λ (w : List A). Placed entry at (each f w) out next) (take-all k xs all) (l .placed)
 
--- a change takes eleven bytes
-pub changed-long : (z : ℤ) → length (changed z) ≡ 11
+-- the bytes of a change
+pub changed-long : (z : ℤ) → length (changed z) ≡ changeSize
 unfolding changed
 changed-long z =
     length-append (digits 2 129) (digits 8 (complement z) ++ (10 ∷ []))
@@ -73,8 +73,8 @@ changed-long z =
 pub states-long : (kind : ℕ) (us : List ℕ) → length (digits 2 kind ++ each (digits 2) us) ≡ 2 + length us * 2
 states-long kind us = length-append (digits 2 kind) (each (digits 2) us) ∙ ap₂ _+_ (digits-long 2 kind) (each-long (digits 2) 2 (digits-long 2) us)
 
--- a report takes thirteen
-pub report-long : (fires : Bool) (trials changes : ℕ) → length (reportLine fires trials changes) ≡ 13
+-- and of a report
+pub report-long : (fires : Bool) (trials changes : ℕ) → length (reportLine fires trials changes) ≡ reportSize
 unfolding reportLine
 report-long fires trials changes =
     let counts = digits 4 trials ++ digits 4 changes in

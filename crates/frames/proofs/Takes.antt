@@ -172,11 +172,11 @@ passed-rules m p =
       le-ltb (length (m .counts)) countsSize (p .ready .counts),
       le-ltb (length (m .words)) wordsSize (p .ready .words),
       le-ltb (length (m .session)) fixedSize (p .ready .session),
-      le-ltb (length (m .room)) 8192 (p .room),
+      le-ltb (length (m .room)) maxChanges (p .room),
       le-ltb (length (m .out)) outputSize (p .out),
       le-ltb 1 (getD (m .counts) 0 0) (p .counted .0),
-      le-ltb 16 (getD (m .counts) 1 0) (p .counted .1),
-      le-ltb 512 (getD (m .counts) 2 0) (p .counted .2),
+      le-ltb maxStates (getD (m .counts) 1 0) (p .counted .1),
+      le-ltb maxNodes (getD (m .counts) 2 0) (p .counted .2),
     )
 
 -- ---- a line leaves such counts again

@@ -24,9 +24,13 @@ unfoldable pub lineIn : List ℕ → List ℕ
 lineIn [] = []
 lineIn (c ∷ cs) = cond (eqb c 10) [] (c ∷ lineIn cs)
 
--- one byte more than the longest frame has: a line of so many bytes is no frame
+-- the bytes of the longest frame: the two digits of its kind, `0A`, and the 18 of its fields
+abbrev pub longestFrame : ℕ
+longestFrame = 20
+
+-- one byte more: a line of so many bytes is no frame
 abbrev pub frontSize : ℕ
-frontSize = 15
+frontSize = longestFrame + 1
 
 -- The front of a line is kept in a memory: what was begun there and the bytes after it, as far as there is room.
 abbrev pub frontWith : List ℕ → ℕ → List ℕ → List ℕ

@@ -16,7 +16,7 @@ use Rattle.promises.specs.Promises.{Loaded, Edited, Ordered}
 use Rattle.frames.specs.declared.Taken.{Taken}
 use Rattle.frames.specs.declared.Taken.the-variants as T
 use Rattle.frames.specs.Frames.{Frame, state, node, run, edit, walk, nothing, frameOf}
-use Rattle.frames.specs.Outputs.{refusal, answered, ordered}
+use Rattle.frames.specs.Outputs.{refusal, reportSize, changeSize, answered, ordered}
 
 -- The lent memory. Counts: 0 before an accepted run and 1 after it, the number of states read, the number of nodes read, the inverted states, the
 -- states' links.
@@ -51,7 +51,7 @@ wordsSize = samplesIn + maxNodes
 
 -- the longest answer: a report, and a change for each place of the change room
 abbrev pub outputSize : ℕ
-outputSize = 13 + 11 * maxChanges
+outputSize = reportSize + changeSize * maxChanges
 
 abbrev pub statesRead : Memory → ℕ
 statesRead m = getD (m .counts) 1 0

@@ -19,6 +19,10 @@ refusal n = line 0x8F (digits 2 n)
 unfoldable pub reportLine : Bool → ℕ → ℕ → List ℕ
 reportLine fires trials changes = line 0x80 (digits 2 (cond fires 1 0) ++ (digits 4 trials ++ digits 4 changes))
 
+-- a report's line has so many bytes
+abbrev pub reportSize : ℕ
+reportSize = 13
+
 -- "then `81` for each change (8 digits, two's complement)"
 unfoldable pub complement : ℤ → ℕ
 complement (pos n) = n
@@ -26,6 +30,10 @@ complement (negsuc n) = 4294967295 - n
 
 unfoldable pub changed : ℤ → List ℕ
 changed z = line 0x81 (digits 8 (complement z))
+
+-- and a change's
+abbrev pub changeSize : ℕ
+changeSize = 11
 
 -- what is written for each of a list, one after the other
 unfoldable pub each : {A : Type 0} → (A → List ℕ) → List A → List ℕ

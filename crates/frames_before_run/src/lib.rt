@@ -19,18 +19,18 @@ use promises::Answer;
 // The places of the counts and of the words.
 pub const INVERTED_IN: usize = 3;
 
-pub const LINKS_IN: usize = 4;
+pub const LINKS_IN: usize = INVERTED_IN + 1;
 
-pub const VALUES_IN: usize = 16;
+pub const VALUES_IN: usize = session::MAX_STATES;
 
-pub const SAMPLES_IN: usize = 32;
+pub const SAMPLES_IN: usize = VALUES_IN + session::MAX_STATES;
 
 // What an accepted state or node prints.
 pub const NOTHING: usize = 0;
 
 // The inverted states among the first n, and whether the next state is one.
 pub fn also_inverted(set: u32, n: u32, inverted: bool) -> u32
-    requires { ⌜ n < 32 ⌝ }
+    requires { ⌜ n < maxStates ⌝ }
     ensures { λ r. ⌜ r ≡ set % 2 ^ n + cond inverted (2 ^ n) 0 ⌝ }
 {
     bits::kept_below(set, n) + bits::picked(bits::only(n), inverted)

@@ -2,8 +2,10 @@
 ghost use mathlib.Core.List.{[], _∷_};
 ghost use Rattle.frames.specs.Lines as l;
 
-// One byte more than the longest frame has.
-pub const KEPT: usize = 15;
+// The bytes of the longest frame, and one more.
+pub const LONGEST_FRAME: usize = 20;
+
+pub const KEPT: usize = LONGEST_FRAME + 1;
 
 // Where the block is read next, how long the front is then, and whether it is a whole line.
 pub struct Gathered {

@@ -124,7 +124,10 @@ fn answer_input(
     io::write_all(STDOUT_FILENO, &out[..progress.written])
 }
 
-// The memory is zero at the start, which is the machine's start too. The output holds many answers, so that writes are few.
+// The output: more than the longest answer, so that it holds many of them, and writes are few.
+const OUTPUT_LENT: usize = 262144;
+
+// The memory is zero at the start, which is the machine's start too.
 fn main() {
     let mut counts = [0u32; COUNTS_SIZE];
     let mut words = [0u16; WORDS_SIZE];
@@ -132,7 +135,7 @@ fn main() {
     let mut changes = [0i32; session::MAX_CHANGES];
     let mut front = [0u8; KEPT];
     let mut block = io::large_buffer();
-    let mut out = [0u8; 262144];
+    let mut out = [0u8; OUTPUT_LENT];
     answer_input(
         &mut counts,
         &mut words,

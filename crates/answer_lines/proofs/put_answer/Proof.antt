@@ -6,7 +6,7 @@ use mathlib.Core.Path.{_≡_, sym, _∙_, ap}
 use lib.ListN.{length}
 use Rattle.listing.proofs.Placing.{placed-append}
 use Rattle.promises.specs.Answers.{told, handedBack}
-use Rattle.frames.specs.Outputs.{reportLine}
+use Rattle.frames.specs.Outputs.{reportLine, changeSize}
 use Rattle.frames.proofs.Written.{room-after}
 use Rattle.frames.proofs.Listed.{report-long}
 use Rattle.answer_lines.proofs.put_answer.Statement.{statement}
@@ -34,7 +34,7 @@ put-changes-requires c κs =
     let s = c .before .before .before .before .before .before .before .before .before .before .before in
     let e = ap length (handed c) in
     let v = c .before .before .before .before .before .before .before .before .answer .given .0 .0 in
-    omega (arith, e, room-after (s .args .out .now) 0 (reportLine (c .before .before .before .before .before .says .result) (v .trials) (v .changes)) (k .last .0) (k .result) (11 * length (handedBack (s .args .room .now) (s .args .answer))) (omega (arith, s .pre, report-long (c .before .before .before .before .before .says .result) (v .trials) (v .changes))) (k .ensures))
+    omega (arith, e, room-after (s .args .out .now) 0 (reportLine (c .before .before .before .before .before .says .result) (v .trials) (v .changes)) (k .last .0) (k .result) (changeSize * length (handedBack (s .args .room .now) (s .args .answer))) (omega (arith, s .pre, report-long (c .before .before .before .before .before .says .result) (v .trials) (v .changes))) (k .ensures))
 
 enum-known-answer-2 : tie.Need-enum-known-answer-2
 enum-known-answer-2 c = search needs

@@ -8,7 +8,7 @@ number-requires : tie.Need-number-requires
 number-requires c κs = search needs
 
 cast-result : tie.Need-cast-result
-cast-result c = let s = c .before .before in record { fits = rw (c .number .ensures) (number-fits (s .args .digits .now) (s .pre .1) (s .pre .0)) }
+cast-result c = let s = c .before .before in record { fits = rw (c .number .ensures) (number-fits (s .args .digits .now) 4 (s .pre .1) (s .pre .0)) }
 
 returns : tie.Need-returns
 returns c = search needs

@@ -1,4 +1,4 @@
--- The digits read so far, and what the rest makes of them.
+-- The digits read so far, and what the rest makes of them. Eight fit 32 bits.
 use Prim.Native.Nat.{_-_}
 use borrow.Author.Needs.{needs}
 use native.Mathlib.Omega.{arith}
@@ -20,7 +20,7 @@ mul-value : tie.Need-mul-value Inv-loop μ-loop
 mul-value c =
     let s = c .before .before .before in
     let l = c .before .loop in
-    omega (arith, reading-fits (s .args .digits .now) (l .value) (l .k) (l .inv) (s .pre .0) (omega arith))
+    omega (arith, reading-fits (s .args .digits .now) (l .value) (l .k) 8 (l .inv) (omega (arith, s .pre .0)))
 
 shared-slice-read-digit : tie.Need-shared-slice-read-digit Inv-loop μ-loop
 shared-slice-read-digit c = search needs
@@ -34,7 +34,7 @@ add-value c =
     let l = c .before .before .before .loop in
     omega (
       arith,
-      reading-fits (s .args .digits .now) (l .value) (l .k) (l .inv) (s .pre .0) (omega arith),
+      reading-fits (s .args .digits .now) (l .value) (l .k) 8 (l .inv) (omega (arith, s .pre .0)),
       c .digit .ensures,
       digit-fits (s .args .digits .now) (s .pre .1) (l .k) (omega arith),
     )

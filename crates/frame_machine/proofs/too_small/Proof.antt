@@ -5,7 +5,7 @@ use mathlib.Core.Logic.{⊎-elim}
 use mathlib.Core.Bool.{_||_}
 use lib.Dec.{ltb}
 use Rattle.frames.specs.Machine.{countsSize, wordsSize}
-use Rattle.session.specs.Limits.{fixedSize}
+use Rattle.session.specs.Limits.{fixedSize, maxChanges}
 use Rattle.frame_machine.proofs.too_small.Statement.{statement}
 use Rattle.frame_machine.proofs.too_small.Tie as tie
 
@@ -27,12 +27,12 @@ returns-2 c = let a = c .before .before .before .args in rw (← front (c .befor
 returns-3 : tie.Need-returns-3
 returns-3 c =
     let a = c .before .before .before .before .args in
-    rw (← front (c .before .before .before), c .before .before .if2 .left, le-ltb (a .session) fixedSize (c .before .if3 .left), lt-ltb (a .room) 8192 (c .if4 .taken))
+    rw (← front (c .before .before .before), c .before .before .if2 .left, le-ltb (a .session) fixedSize (c .before .if3 .left), lt-ltb (a .room) maxChanges (c .if4 .taken))
 
 returns-4 : tie.Need-returns-4
 returns-4 c =
     let a = c .before .before .before .before .args in
-    rw (← front (c .before .before .before), c .before .before .if2 .left, le-ltb (a .session) fixedSize (c .before .if3 .left), le-ltb (a .room) 8192 (c .if4 .left))
+    rw (← front (c .before .before .before), c .before .before .if2 .left, le-ltb (a .session) fixedSize (c .before .if3 .left), le-ltb (a .room) maxChanges (c .if4 .left))
 
 pub too-small-spec : {M : Type 1} → statement M
 too-small-spec = tie.close (tie.spec returns returns-2 returns-3 returns-4)

@@ -1,8 +1,7 @@
 -- Two fields of four digits.
 use borrow.Author.Needs.{needs}
 use native.Mathlib.Omega.{arith}
-use lib.ListN.{drop, length-take}
-use Rattle.frames.proofs.Kinded.{hex-part, edge-wrong, insert-right, delete-right}
+use Rattle.frames.proofs.Kinded.{some-digits, edge-wrong, insert-right, delete-right}
 use Rattle.frame_reading.proofs.edge_frame.Statement.{statement}
 use Rattle.frame_reading.proofs.edge_frame.Tie as tie
 
@@ -19,7 +18,7 @@ part-number-end : tie.Need-part-number-end
 part-number-end c = search needs
 
 number-requires : tie.Need-number-requires
-number-requires c κs = let s = c .before .before .before in (omega (arith, length-take 4 (drop 0 (s .args .fields .now))), hex-part (s .args .fields .now) 0 4 (s .pre) (omega arith))
+number-requires c κs = let s = c .before .before .before in some-digits (s .args .fields .now) 0 4 8 (s .pre) (omega arith) (omega arith) (omega arith)
 
 sub-number-2 : tie.Need-sub-number-2
 sub-number-2 c = search needs
@@ -31,7 +30,7 @@ part-number-end-2 : tie.Need-part-number-end-2
 part-number-end-2 c = search needs
 
 number-requires-2 : tie.Need-number-requires-2
-number-requires-2 c κs = let s = c .before .before .before .before .before in (omega (arith, length-take 4 (drop 4 (s .args .fields .now))), hex-part (s .args .fields .now) 4 4 (s .pre) (omega arith))
+number-requires-2 c κs = let s = c .before .before .before .before .before in some-digits (s .args .fields .now) 4 8 8 (s .pre) (omega arith) (omega arith) (omega arith)
 
 returns-2 : tie.Need-returns-2
 returns-2 c = let s = c .before .before .before .before .before .before .before in rw (c .if2 .taken, c .before .before .before .number .ensures, c .before .number2 .ensures) (insert-right (s .args .fields .now) (c .before .before .before .before .before .if1 .left))

@@ -1,8 +1,7 @@
 -- One field of four digits.
 use borrow.Author.Needs.{needs}
 use native.Mathlib.Omega.{arith}
-use lib.ListN.{drop, length-take}
-use Rattle.frames.proofs.Kinded.{hex-part, node-wrong, node-right}
+use Rattle.frames.proofs.Kinded.{some-digits, node-wrong, node-right}
 use Rattle.frame_reading.proofs.node_frame.Statement.{statement}
 use Rattle.frame_reading.proofs.node_frame.Tie as tie
 
@@ -19,7 +18,7 @@ part-half-end : tie.Need-part-half-end
 part-half-end c = search needs
 
 half-requires : tie.Need-half-requires
-half-requires c κs = let s = c .before .before .before in (omega (arith, length-take 4 (drop 0 (s .args .fields .now))), hex-part (s .args .fields .now) 0 4 (s .pre) (omega arith))
+half-requires c κs = let s = c .before .before .before in some-digits (s .args .fields .now) 0 4 4 (s .pre) (omega arith) (omega arith) (omega arith)
 
 returns-2 : tie.Need-returns-2
 returns-2 c = let s = c .before .before .before .before in rw (c .half .ensures) (node-right (s .args .fields .now) (c .before .before .if1 .left))

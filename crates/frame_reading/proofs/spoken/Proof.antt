@@ -25,6 +25,9 @@ bare-frame-requires-2 c κs = search needs
 state-frame-requires-2 : tie.Need-state-frame-requires-2
 state-frame-requires-2 c κs = search needs
 
+wide-frame-requires : tie.Need-wide-frame-requires
+wide-frame-requires c κs = search needs
+
 returns : tie.Need-returns
 returns c = rw (c .before .match .keys1) (c .state-frame .ensures)
 
@@ -47,7 +50,13 @@ returns-7 : tie.Need-returns-7
 returns-7 c = rw (c .before .match .keys7) (c .state-frame2 .ensures)
 
 returns-8 : tie.Need-returns-8
-returns-8 c = let r = c .match .rest in kind-other (c .before .before .args .fields .now) (c .before .before .args .kind) (r .0 .0 .0 .0 .0 .0 .1) (r .0 .0 .0 .0 .0 .1) (r .0 .0 .0 .0 .1) (r .0 .0 .0 .1) (r .0 .0 .1) (r .0 .1) (r .1)
+returns-8 c = rw (c .before .match .keys8) (c .wide-frame .ensures)
+
+returns-9 : tie.Need-returns-9
+returns-9 c =
+    let r = c .match .rest in
+    kind-other (c .before .before .args .fields .now) (c .before .before .args .kind) (r .0 .0 .0 .0 .0 .0 .0 .1) (r .0 .0 .0 .0 .0 .0 .1) (r .0 .0 .0 .0 .0 .1)
+    (r .0 .0 .0 .0 .1) (r .0 .0 .0 .1) (r .0 .0 .1) (r .0 .1) (r .1)
 
 pub spoken-spec : {M : Type 1} → statement M
 spoken-spec =
@@ -60,6 +69,7 @@ spoken-spec =
     edge-frame-requires-2
     bare-frame-requires-2
     state-frame-requires-2
+    wide-frame-requires
     returns
     returns-2
     returns-3
@@ -67,4 +77,5 @@ spoken-spec =
     returns-5
     returns-6
     returns-7
-    returns-8)
+    returns-8
+    returns-9)

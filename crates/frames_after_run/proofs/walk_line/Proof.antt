@@ -5,6 +5,7 @@ use Prim.Native.Nat.{_≤_}
 use mathlib.Core.Path.{sym, _∙_, ap}
 use lib.ListN.{length}
 use lib.Seq.{length-take-le}
+use Rattle.session.specs.Limits.{maxStates}
 use Rattle.session.proofs.Tables.{length-section}
 use Rattle.promises.specs.Answers.{toldOrder}
 use Rattle.frames.proofs.Few.{ordered-few}
@@ -22,11 +23,11 @@ cast-states : tie.Need-cast-states
 cast-states c = search needs
 
 -- as many states as the trigger may have
-few : (c : tie.After-put-order-arg) → c .before .before .answer .given .0 .0 ≤ 16
+few : (c : tie.After-put-order-arg) → c .before .before .answer .given .0 .0 ≤ maxStates
 few c = let o = c .before .before .before .before .before .order in ordered-few (c .before .before .before .before .before .before .before .before .args .session .now) (o .result) (c .before .before .answer .given .0 .0) (o .ensures) (ap toldOrder (c .before .before .answer .given .1))
 
 short : (c : tie.After-put-order-arg) → c .before .before .answer .given .0 .0 ≤ length (c .before .before .before .before .before .order .result .states)
-short c = omega (arith, few c, ap length (c .before .before .before .before .before .order .ensures .states) ∙ length-section 16 _)
+short c = omega (arith, few c, ap length (c .before .before .before .before .before .order .ensures .states) ∙ length-section maxStates _)
 
 array-share-prefix-states : tie.Need-array-share-prefix-states
 array-share-prefix-states c = short c

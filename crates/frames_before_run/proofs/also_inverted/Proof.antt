@@ -5,6 +5,7 @@ use Prim.Native.Nat.{ℕ, _+_, _≤_}
 use mathlib.Core.Path.{_∙_, ap, ap₂}
 use mathlib.Core.Bool.{cond}
 use lib.Pow.{pow-mono}
+use Rattle.session.specs.Limits.{maxStates}
 use Rattle.frames.proofs.Kept.{next-bit}
 use Rattle.frames_before_run.proofs.also_inverted.Statement.{statement}
 use Rattle.frames_before_run.proofs.also_inverted.Tie as tie
@@ -27,7 +28,7 @@ returns c =
 add-result : tie.Need-add-result
 add-result c =
     let a = c .before .before .before .args in
-    let few : a .n + 1 ≤ 32 = omega arith in
+    let few : a .n + 1 ≤ maxStates = omega arith in
     omega (arith, returns c, next-bit (a .inverted) (a .set) (a .n), pow-mono few)
 
 pub also-inverted-spec : {M : Type 1} → statement M

@@ -1,9 +1,10 @@
--- The node 511 is the last.
+-- A node is kept while there are fewer than there may be.
 use borrow.Author.Needs.{needs}
 use borrow.Author.Tests.{le-leb, lt-leb}
 use mathlib.Core.Path.{refl}
 use native.Mathlib.Omega.{arith}
 use lib.ListN.{getD}
+use Rattle.session.specs.Limits.{maxNodes}
 use Rattle.frames.proofs.Takes.{printed-front}
 use Rattle.frames_before_run.proofs.node_line.Statement.{statement}
 use Rattle.frames_before_run.proofs.node_line.Tie as tie
@@ -21,7 +22,7 @@ same-length : tie.Need-same-length
 same-length c = search needs
 
 returns : tie.Need-returns
-returns c = λ s k. let a = c .before .before .before .before .before .before .before .before .before .args in rw (le-leb 512 (getD (a .counts .now) 2 0) (c .before .before .before .before .if1 .taken)) (printed-front (a .counts .now) (a .words .now) s k (c .before .before .put-refusal .ensures))
+returns c = λ s k. let a = c .before .before .before .before .before .before .before .before .before .args in rw (le-leb maxNodes (getD (a .counts .now) 2 0) (c .before .before .before .before .if1 .taken)) (printed-front (a .counts .now) (a .words .now) s k (c .before .before .put-refusal .ensures))
 
 add-counts : tie.Need-add-counts
 add-counts c = search needs
@@ -48,7 +49,7 @@ same-length-3 : tie.Need-same-length-3
 same-length-3 c = search needs
 
 returns-2 : tie.Need-returns-2
-returns-2 c = λ s k. let a = c .before .before .before .before .before .args in rw (lt-leb 512 (getD (a .counts .now) 2 0) (c .if1 .left)) record { many = refl; left = refl }
+returns-2 c = λ s k. let a = c .before .before .before .before .before .args in rw (lt-leb maxNodes (getD (a .counts .now) 2 0) (c .if1 .left)) record { many = refl; left = refl }
 
 pub node-line-spec : {M : Type 1} → statement M
 node-line-spec =

@@ -1,4 +1,4 @@
--- The sixteenth state is the last.
+-- A state is kept while there are fewer than there may be.
 use borrow.Author.Needs.{needs}
 use borrow.Author.Tests.{le-leb, lt-leb}
 use native.Mathlib.Omega.{arith}

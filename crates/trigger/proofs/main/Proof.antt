@@ -5,8 +5,9 @@ use native.Mathlib.Omega.{arith}
 use mathlib.Core.Path.{refl}
 use lib.IntN.{pos}
 use lib.ListN.{length-replicate}
+use Rattle.frames.specs.Lines.{frontSize}
 use Rattle.frames.specs.Machine.{countsSize, wordsSize}
-use Rattle.session.specs.Limits.{fixedSize}
+use Rattle.session.specs.Limits.{fixedSize, maxChanges}
 use Rattle.trigger.proofs.main.Statement.{statement}
 use Rattle.trigger.proofs.main.Tie as tie
 
@@ -44,9 +45,9 @@ answer-input-requires c κs = (
     states = refl;
     nodes = refl;
   },
-  omega (arith, length-replicate 8192 (pos 0)),
-  omega (arith, length-replicate {A = ℕ} 262144 0),
-  omega (arith, length-replicate {A = ℕ} 15 0),
+  omega (arith, length-replicate maxChanges (pos 0)),
+  simp length-replicate (omega arith),
+  omega (arith, length-replicate {A = ℕ} frontSize 0),
 )
 
 returns : tie.Need-returns
