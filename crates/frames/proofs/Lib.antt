@@ -1,6 +1,7 @@
 -- The laws of digits and frames.
 pub mod Hex
 pub mod Kinded
+pub mod Wide
 pub mod Written
 pub mod Listed
 pub mod Fronts
