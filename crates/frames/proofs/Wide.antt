@@ -7,6 +7,7 @@ use mathlib.Core.List.{List, _∷_, _++_}
 use lib.Dec.{eqb}
 use lib.ListN.{length, take, drop, length-append, length-take}
 use lib.Seq.{take-all, take-append-seam, drop-append-seam, drop-drop}
+use Rattle.bits.specs.Word.{halfBits}
 use Rattle.promises.specs.Rules.{verdict}
 use Rattle.frames.specs.Digits.{digit, hexadecimal, numberFrom, number}
 use Rattle.frames.specs.Frames.{state, nothing, field, spoken}
@@ -99,5 +100,5 @@ module _ (mask value : List ℕ) (m : length mask ≡ 4) (v : length value ≡ 4
       ∙ wide-right wide (omega (arith, fields-long zeros)) (omega (arith, byte, few b))
 
 -- their links are in the lower half
-pub older-links : (ds : List ℕ) → hexadecimal ds ≡ true → length ds ≡ 12 → field 4 ds 8 < 2 ^ 16
+pub older-links : (ds : List ℕ) → hexadecimal ds ≡ true → length ds ≡ 12 → field 4 ds 8 < 2 ^ halfBits
 older-links ds h e = number-fits (take 4 (drop 8 ds)) 4 (hex-part ds 8 4 h (omega arith)) (omega (arith, length-take 4 (drop 8 ds)))
