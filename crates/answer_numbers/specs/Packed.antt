@@ -129,11 +129,11 @@ pub record Packs {A : Type 0} (number : A → ℕ) (P : A → Type 0) (r : ℕ) 
   pub holds : P answer
   pub packs : r ≡ number answer
 
--- An order into lent places. Rule 3 is broken too where these are fewer than 16: this is an extension of 01.
+-- An order into lent places. Rule 3 is broken too where these are fewer than states may be: this is an extension of 01.
 abbrev pub orderRules : List ℕ → List ℕ → List Rule
 orderRules s places = rule 3 (ltb (length places) maxStates) ∷ questionRules s []
 
--- the order in the first 16 places, zeros after the states; the places past them stay, and a refusal writes nothing
+-- the order in the first 32 places, zeros after the states; the places past them stay, and a refusal writes nothing
 pub record OrderWritten (s places : List ℕ) (r : ℕ) (places' : List ℕ) : Type 0 where
   pub answer : r ≡ packedCount (outcome (verdict (orderRules s places)) (states (triggerOf s)))
   pub written : places' ≡ cond (eqb (verdict (orderRules s places)) 0) (section maxStates (order (triggerOf s)) ++ drop maxStates places) places

@@ -175,6 +175,9 @@ pub const ALL: u32 = 4294967295;
 
 pub const ALL_HALF: u16 = 65535;
 
+// The lower half.
+pub const LOWER: u32 = ALL_HALF as u32;
+
 // The word where the test holds; where it does not, if the turn is every bit and not none. The turn is one operation, and there is no branch.
 pub fn chosen(word: u32, test: bool, turn: u32) -> u32
     ensures { λ r. ⌜ ((b : Bool) → turn ≡ cond b (2 ^ setBits - 1) 0 → r ≡ cond (cond b (not test) test) word 0) ⌝ }

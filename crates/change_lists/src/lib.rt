@@ -7,16 +7,19 @@ ghost use lib.Signed.{ltZ};
 ghost use lib.ListN.{length, getD};
 ghost use Rattle.simulation.specs.Sets.{allBelow};
 ghost use Rattle.session.specs.Limits.{maxChanges, maxNodes, maxStates};
-ghost use Rattle.listing.specs.Changes.{sizeOf, signed};
+ghost use Rattle.listing.specs.Changes.{nodeSpan, sizeOf, signed};
 ghost use Rattle.listing.specs.Placed.{nodeChanges, tableChanges, Placed};
 ghost use Rattle.bits.specs.Word.{setBits};
+
+// The sizes of two nodes' changes are so far apart: room for the numbers of the states.
+pub const NODE_SPAN: u32 = 64;
 
 // The change of a state at a node: positive where it begins to stand, negative where it ceases.
 pub fn change(state: u32, node: u32, begins: bool) -> i32
     requires { ⌜ (state < setBits) × (node < maxNodes) ⌝ }
     ensures { λ r. ⌜ r ≡ signed begins (sizeOf state node) ⌝ }
 {
-    let size = (node * 64 + (state + 1)) as i32;
+    let size = (node * NODE_SPAN + (state + 1)) as i32;
     if begins { size } else { 0 - size }
 }
 
@@ -45,12 +48,12 @@ pub struct Pair {
 }
 
 pub fn pair_of(change: i32) -> Pair
-    ensures { λ r. ⌜ (r .node * 64 + r .state ≡ natAbs change) × (r .state < 64) ⌝ }
+    ensures { λ r. ⌜ (r .node * nodeSpan + r .state ≡ natAbs change) × (r .state < nodeSpan) ⌝ }
 {
     let size = size_of(change);
     Pair {
-        node: size / 64,
-        state: size % 64,
+        node: size / NODE_SPAN,
+        state: size % NODE_SPAN,
     }
 }
 

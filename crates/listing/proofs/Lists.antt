@@ -13,7 +13,7 @@ use Rattle.simulation.proofs.Ordered.{Rising, elem-take, rising-append, elem-ap
 use Rattle.simulation.proofs.Sets.{clash, or-take}
 use Rattle.simulation.proofs.Pattern.{pair-state, pair-node, pair-inside, state-inside, node-inside}
 use Rattle.session.specs.Trigger.{Trigger, Graph, Marks, states, nodes, pattern}
-use Rattle.listing.specs.Changes.{sizeOf, change, joinTo, changes}
+use Rattle.listing.specs.Changes.{sizeOf, change, joinTo, changes, nodeSpan}
 
 -- ---- one change
 
@@ -113,7 +113,7 @@ module _ (f : ℕ → List ℤ) where
 -- ---- the change list of two sets of marks
 
 -- sizes ascend as pairs do
-size-mono : (n p q : ℕ) → 0 < n → n ≤ 64 → p < q → p / n * 64 + (p % n + 1) < q / n * 64 + (q % n + 1)
+size-mono : (n p q : ℕ) → 0 < n → n ≤ nodeSpan → p < q → p / n * nodeSpan + (p % n + 1) < q / n * nodeSpan + (q % n + 1)
 size-mono n p q some few l =
     let a = mod-lt p some in
     let b = mod-lt q some in
@@ -160,7 +160,7 @@ module _ (t : Trigger) (g : Graph) (before after : Marks) where
   )
 
   -- "ascends by size", strictly, so each pair once
-  pub changes-ascend : 0 < states t → states t ≤ 64 → Rising (map natAbs (changes t g before after))
+  pub changes-ascend : 0 < states t → states t ≤ nodeSpan → Rising (map natAbs (changes t g before after))
   unfolding changes
   changes-ascend some few =
       join-rising one size (λ p y h. change-sizes (was p) (now p) (size p) y h) (λ p. change-rising (was p) (now p) (size p)) (nodes g * n)

@@ -6,8 +6,11 @@ use lib.IntN.{ℤ, pos, negℤ}
 use Rattle.session.specs.Trigger.{Trigger, Graph, Marks, states, nodes}
 
 -- "of size node times 64 plus state": the state u of index u has the number u + 1, so no change is zero
+abbrev pub nodeSpan : ℕ
+nodeSpan = 64
+
 abbrev pub sizeOf : ℕ → ℕ → ℕ
-sizeOf u v = v * 64 + (u + 1)
+sizeOf u v = v * nodeSpan + (u + 1)
 
 -- "positive for a pair that began to stand, negative for one that ceased"
 abbrev pub signed : Bool → ℕ → ℤ

@@ -1,4 +1,4 @@
--- What rules 4 and 7 leave: at most 16 states, and an end for each start.
+-- What rules 4 and 7 leave: not too many states, and an end for each start.
 use Prim.Native.Nat.{ℕ, _≤_}
 use borrow.Author.Tests.{ltb-false, eqb-true, not-false}
 use mathlib.Core.Path.{_≡_}

@@ -1,5 +1,5 @@
 -- From the admitted table and its refinement to the greatest simulation.
-use Prim.Native.Nat.{ℕ, _*_, _/_, _%_, _<_}
+use Prim.Native.Nat.{ℕ, _-_, _*_, _/_, _%_, _^_, _<_}
 use native.Mathlib.Omega.{arith}
 use mathlib.Core.Path.{_≡_, refl, sym, _∙_, ap}
 use mathlib.Core.Bool.{true}
@@ -30,9 +30,9 @@ use Rattle.refinement.proofs.Systems.{settled-refined}
 use Rattle.loading.specs.Solved.{Solved}
 
 -- words that are all ones: every node waits
-pub all-wait : (v : ℕ) → v < maxNodes → waits (replicate waitingWords 4294967295) v ≡ true
+pub all-wait : (v : ℕ) → v < maxNodes → waits (replicate waitingWords (2 ^ setBits - 1)) v ≡ true
 all-wait v l =
-    ap (λ (w : ℕ). members w (v % setBits)) (getD-replicate waitingWords (v / setBits) 4294967295 0 (omega arith))
+    ap (λ (w : ℕ). members w (v % setBits)) (getD-replicate waitingWords (v / setBits) (2 ^ setBits - 1) 0 (omega arith))
     ∙ ap (λ (X : Set). X (v % setBits)) (full-members setBits)
     ∙ lt-ltb (v % setBits) setBits (omega arith)
 

@@ -27,7 +27,7 @@ pub fn solve(session: &[u32], table: &mut [u32]) -> u32
 {
     let nodes = session[1] as usize;
     let trials = admitted_pairs(session, turned_of(session), table);
-    let mut waiting = [4294967295u32; WAITING_WORDS];
+    let mut waiting = [bits::ALL; WAITING_WORDS];
     let settled = [0u32; session::MAX_NODES];
     refine_indexed(
         links_of(session),

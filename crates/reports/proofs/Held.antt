@@ -65,7 +65,7 @@ module _ (xs : List ℕ) (h : inLayout xs ≡ true) where
   unfolding changes tableChanges
   held-changes bs cs = rw (facts .counts .0, facts .counts .1)
 
-  -- a room of 8,192 places holds any list
+  -- a room that is long enough holds any list
   pub held-few : (bs cs : List ℕ) → length (tableChanges (getD xs 0 0) (getD xs 1 0) bs cs) ≤ maxChanges
   held-few bs cs =
       let b = layout-limits xs h in

@@ -94,7 +94,7 @@ pub fn narrow(place: &mut [u16], source: &[u32], from: u32)
 {
     let mut i = 0;
     while i < place.len() {
-        place[i] = ((source[i] >> from) & 0xFFFF) as u16;
+        place[i] = ((source[i] >> from) & bits::LOWER) as u16;
         i += 1;
     }
 }

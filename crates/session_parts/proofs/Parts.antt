@@ -25,7 +25,7 @@ module _ (xs : List ℕ) (h : inLayout xs ≡ true) where
   abbrev facts : LayoutFacts xs
   facts = layout-facts xs h
 
-  -- there are links of at least one state, and of at most 16
+  -- there are links of at least one state, and of no more than there may be
   pub held-links : (0 < length (triggerOf xs .links)) × (length (triggerOf xs .links) ≤ maxStates)
   held-links = rw (facts .trigger .links) (facts .trigger .some, facts .trigger .few)
 

@@ -98,7 +98,7 @@ pub extern "C" fn trigger_fires(session: &[u32]) -> u64
     firing_number(matching::fires(session))
 }
 
-// Writes the states in depth-first order, and zeros after them, into 16 places.
+// Writes the states in depth-first order, and zeros after them, into as many places as there may be states.
 #[no_mangle]
 pub extern "C" fn trigger_order(session: &[u32], states: &mut [u8]) -> u64
     ensures { λ r. ⌜ OrderWritten (now (session .entry)) (now (states .entry)) r (now (states .exit)) ⌝ }

@@ -1,4 +1,4 @@
--- `only` meets its contract: 1 << i does not wrap below 32.
+-- `only` meets its contract: 1 << i does not wrap.
 use borrow.Author.Needs.{needs}
 use native.Mathlib.Nat.{one-mul}
 use native.Mathlib.Omega.{arith}

@@ -1,4 +1,4 @@
--- `write_changes` meets its contract: tables that agree have no changes, and after v nodes the changes of these are written, at most 16 for each.
+-- `write_changes` meets its contract: tables that agree have no changes, and after v nodes the changes of these are written, at most one a state for each.
 use Prim.Native.Nat.{_*_, _-_, _≤_}
 use native.Mathlib.Omega.{arith}
 use borrow.Author.Needs.{needs}

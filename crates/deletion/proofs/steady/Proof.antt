@@ -17,7 +17,7 @@ use Rattle.deletion.proofs.steady.Statement.{statement}
 use Rattle.deletion.proofs.steady.Tie as tie
 use Rattle.session.specs.Limits.{maxNodes}
 
--- a word for each of 512 nodes, and the node is one of them
+-- a word for each node, and the node is one of them
 long : (c : tie.After-marks-of) → length (c .marks-of .result .now) ≡ maxNodes
 long c = let s = c .before .before in ap length (c .marks-of .ensures) ∙ marks-long (s .args .session .now) (s .pre .0)
 

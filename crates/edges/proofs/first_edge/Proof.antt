@@ -1,4 +1,4 @@
--- `first_edge` meets its contract: the edges from v on are those not below v * 512.
+-- `first_edge` meets its contract: the edges from v on are those not below the number of (v, 0).
 use borrow.Author.Needs.{needs}
 use Rattle.simulation.specs.Ordered.{from}
 use Rattle.edges.proofs.first_edge.Statement.{statement}

@@ -56,7 +56,7 @@ slice-aggregate-narrow : tie.Need-slice-aggregate-narrow
 slice-aggregate-narrow c = room (c .before .before)
 
 narrow-requires : tie.Need-narrow-requires
-narrow-requires c κs = let g = c .before .before in (room g, start g .pre .1 .1 .0 .1)
+narrow-requires c κs = let g = c .before .before in (room g, omega (arith, start g .pre .1 .1 .0 .1))
 
 shr-all-sparse : tie.Need-shr-all-sparse
 shr-all-sparse c = search needs

@@ -1,4 +1,4 @@
--- `copy_edges` meets its contract: the places before i hold the numbers of the edges, which fit a word as their nodes are below 512.
+-- `copy_edges` meets its contract: the places before i hold the numbers of the edges, which fit a word as their nodes are few.
 use Prim.Native.Nat.{ℕ, _-_, _<_}
 use borrow.Author.Needs.{needs}
 use native.Mathlib.Omega.{arith}
