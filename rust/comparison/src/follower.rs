@@ -4,7 +4,7 @@ use crate::cases::Case;
 use crate::random::Random;
 use crate::subject::{Subject, accepted, answered, refused};
 use reference::layout::image_of;
-use reference::rules::{ROOM, SESSION};
+use reference::rules::{NODES, ROOM, SESSION, STATES};
 use reference::{Book, Report};
 use trigger_engine::lent::Answer;
 
@@ -103,11 +103,11 @@ impl<S: Subject> Follower<S> {
         let wanted = answered(Ok(self.book.fires()));
         self.same(answer == wanted, &format!("fires: {answer:?}, not {wanted:?}"));
 
-        let mut states = [0xEE; 19];
+        let mut states = [0xEE; STATES + 3];
         let answer = self.subject.order(&self.session, &mut states);
         let order = self.book.order();
-        let mut wanted = [0xEE; 19];
-        wanted[..16].fill(0);
+        let mut wanted = [0xEE; STATES + 3];
+        wanted[..STATES].fill(0);
         wanted[..order.len()].copy_from_slice(&order);
         self.same(states == wanted, &format!("order: {states:?}, not {wanted:?}"));
         self.same(answer == Answer((order.len() as u64) << 40), &format!("order: {answer:?}"));
@@ -128,7 +128,7 @@ impl<S: Subject> Follower<S> {
     pub fn any_edit(&self, random: &mut Random) -> Edit {
         let nodes = self.book.graph.nodes();
         if nodes == 0 || random.once_in(40) {
-            let names = [0, 1, nodes as u32, 511, 512, 65_535, u32::MAX];
+            let names = [0, 1, nodes as u32, NODES as u32 - 1, NODES as u32, 65_535, u32::MAX];
             let (start, end) = (*random.pick(&names), *random.pick(&names));
             return if random.once_in(2) { Edit::Insert(start, end) } else { Edit::Delete(start, end) };
         }

@@ -10,8 +10,8 @@ use comparison::subject::{accepted, answered, refused};
 use comparison::{Case, Engine, Random, Subject, Twin};
 use reference::changes::changes;
 use reference::firing::marks_fire;
-use reference::layout::{held, image};
-use reference::rules::{ROOM, SESSION, delete_rules, insert_rules, question_rules};
+use reference::layout::{EDGES_AT, INVERTED_AT, LINKS_AT, MARKS_AT, MASKS_AT, SAMPLES_AT, VALUES_AT, held, image};
+use reference::rules::{EDGES, NODES, ROOM, SESSION, STATES, delete_rules, insert_rules, question_rules};
 use reference::standing::{admitted, standing, supported_part};
 use reference::trials::trial_set;
 use reference::walk::walk_order;
@@ -26,7 +26,7 @@ fn all_calls<S: Subject>(subject: S, session: &[u32], random: &mut Random, label
     let held = held(session);
     let nodes = session[1].min(600);
     let any = |random: &mut Random| (random.below(nodes as usize + 1)) as u32;
-    let (state, node) = (random.below(18) as u32, any(random));
+    let (state, node) = (random.below(STATES + 2) as u32, any(random));
 
     let answer = subject.matches(session, state, node);
     let wanted = match &held {
@@ -44,7 +44,7 @@ fn all_calls<S: Subject>(subject: S, session: &[u32], random: &mut Random, label
     };
     assert_eq!(answer, wanted, "{label}: fires");
 
-    let mut states = [0xEE; 16];
+    let mut states = [0xEE; STATES];
     let answer = subject.order(session, &mut states);
     match &held {
         Some((trigger, _, _)) => {
@@ -52,7 +52,7 @@ fn all_calls<S: Subject>(subject: S, session: &[u32], random: &mut Random, label
             assert_eq!(answer, Answer((order.len() as u64) << 40), "{label}: order");
             assert_eq!(states[..order.len()], order, "{label}: order");
         }
-        None => assert_eq!((answer, states), (refused(10), [0xEE; 16]), "{label}: order"),
+        None => assert_eq!((answer, states), (refused(10), [0xEE; STATES]), "{label}: order"),
     }
 
     for inserts in [true, false] {
@@ -136,7 +136,7 @@ fn edit<S: Subject>(
 /// The marks that a session holds for its states.
 fn left_marks(trigger: &Trigger, session: &[u32]) -> Relation {
     let nodes = session[1] as usize;
-    Relation::of(trigger.states.len(), nodes, |state, node| session[2612 + node] >> state & 1 == 1)
+    Relation::of(trigger.states.len(), nodes, |state, node| session[MARKS_AT + node] >> state & 1 == 1)
 }
 
 /// A loaded session with a rest past its fixed size.
@@ -160,7 +160,7 @@ fn other(random: &mut Random, word: u32) -> u32 {
 }
 
 fn sessions(random: &mut Random) -> Vec<Vec<u32>> {
-    [(3, 6, 12), (1, 0, 0), (16, 512, 2048), (5, 512, 700), (16, 40, 1600), (9, 129, 130)]
+    [(3, 6, 12), (1, 0, 0), (STATES, NODES, EDGES), (5, NODES, 700), (STATES, 40, 1600), (9, 129, 130)]
         .iter()
         .map(|(states, nodes, edges)| loaded(&Case::random(random, *states, *nodes, *edges, 3)))
         .collect()
@@ -198,9 +198,11 @@ fn small_sessions_damaged() {
         let edges = random.below(nodes * nodes + 1);
         let mut session = loaded(&Case::random(&mut random, states, nodes, edges, 2));
         for _ in 0..random.between(1, 2) {
-            let fields = [(4, states), (20, states), (36, states)];
-            let used = [[(0, 3), (3, 1)].as_slice(), &fields, &[(52, nodes), (564, edges + 1), (2612, nodes)]].concat();
-            let section = if random.once_in(2) { (2612, nodes) } else { *random.pick(&used) };
+            let counts = [(0, INVERTED_AT), (INVERTED_AT, 1)];
+            let trigger = [MASKS_AT, VALUES_AT, LINKS_AT].map(|at| (at, states));
+            let graph = [(SAMPLES_AT, nodes), (EDGES_AT, edges + 1), (MARKS_AT, nodes)];
+            let used = [counts.as_slice(), &trigger, &graph].concat();
+            let section = if random.once_in(2) { (MARKS_AT, nodes) } else { *random.pick(&used) };
             let place = section.0 + random.below(section.1);
             session[place] = match random.below(3) {
                 0 => other(&mut random, session[place]),
@@ -226,12 +228,12 @@ fn edges_and_counts_damaged() {
     let seed = seed("edges_and_counts_damaged");
     for number in 0..600 {
         let mut random = Random::new(seed, number);
-        let nodes = random.between(2, 512);
-        let edges = random.between(2, (2 * nodes).min(2047));
-        let states = random.between(1, 15);
+        let nodes = random.between(2, NODES);
+        let edges = random.between(2, (2 * nodes).min(EDGES - 1));
+        let states = random.between(1, STATES - 1);
         let whole = loaded(&Case::random(&mut random, states, nodes, edges, 3));
         let held = whole[2] as usize;
-        let place = 564 + random.below(held - 1);
+        let place = EDGES_AT + random.below(held - 1);
         let label = format!("seed {seed}, case {number}");
         let mut damaged = |change: &dyn Fn(&mut Vec<u32>)| {
             let mut session = whole.clone();
@@ -240,25 +242,25 @@ fn edges_and_counts_damaged() {
         };
         assert!(!damaged(&|session| session.swap(place, place + 1)));
         assert!(!damaged(&|session| session[place + 1] = session[place]));
-        assert!(!damaged(&|session| session[563 + held] = (nodes * 512) as u32));
+        assert!(!damaged(&|session| session[EDGES_AT + held - 1] = (nodes * NODES) as u32));
         assert!(!damaged(&|session| session[2] += 1));
         assert!(!damaged(&|session| session[2] -= 1));
-        assert!(!damaged(&|session| session[2] = 2049));
-        assert!(!damaged(&|session| session[1] = 513));
+        assert!(!damaged(&|session| session[2] = EDGES as u32 + 1));
+        assert!(!damaged(&|session| session[1] = NODES as u32 + 1));
         assert!(!damaged(&|session| session[0] = 0));
-        assert!(!damaged(&|session| session[0] = 17));
+        assert!(!damaged(&|session| session[0] = STATES as u32 + 1));
         assert!(!damaged(&|session| session[0] = u32::MAX));
-        assert!(!damaged(&|session| session[3] |= 1 << states));
-        assert!(!damaged(&|session| session[3] |= 1 << 16));
-        assert!(!damaged(&|session| session[3] |= 1 << 31));
-        assert!(!damaged(&|session| session[36] |= 1 << states));
-        assert!(!damaged(&|session| session[2612] |= 1 << states));
-        assert!(!damaged(&|session| session[4 + states] = 1));
-        assert!(!damaged(&|session| session[4] |= 1 << 16));
-        assert!(!damaged(&|session| session[52] |= 1 << 31));
+        assert!(!damaged(&|session| session[INVERTED_AT] |= 1 << states));
+        assert!(!damaged(&|session| session[INVERTED_AT] |= 1 << 16));
+        assert!(!damaged(&|session| session[INVERTED_AT] |= 1 << 31));
+        assert!(!damaged(&|session| session[LINKS_AT] |= 1 << states));
+        assert!(!damaged(&|session| session[MARKS_AT] |= 1 << states));
+        assert!(!damaged(&|session| session[MASKS_AT + states] = 1));
+        assert!(!damaged(&|session| session[MASKS_AT] |= 1 << 16));
+        assert!(!damaged(&|session| session[SAMPLES_AT] |= 1 << 31));
         // One state or one node more, with nothing at it, is another session in layout.
         assert!(damaged(&|session| session[0] += 1));
-        assert_eq!(damaged(&|session| session[1] += 1), nodes < 512);
+        assert_eq!(damaged(&|session| session[1] += 1), nodes < NODES);
     }
 }
 
@@ -271,7 +273,7 @@ fn inverted_word_damaged() {
     let mut counts = [0; 4];
     for number in 0..1_500 {
         let mut random = Random::new(seed, number);
-        let (states, nodes) = (random.between(1, 16), *random.pick(&[1, 2, 7, 16, 40, 512]));
+        let (states, nodes) = (random.between(1, STATES), *random.pick(&[1, 2, 7, 16, 40, NODES]));
         let edges = random.below(4 * nodes);
         let mut case = Case::random(&mut random, states, nodes, edges, 3);
         // Unlinked states stand wherever they are admitted.
@@ -282,16 +284,16 @@ fn inverted_word_damaged() {
         // Whether the session is in layout with the state turned round and its marks at these nodes.
         let mut turned = |marked: &dyn Fn(usize) -> bool| {
             let mut session = whole.clone();
-            session[3] ^= 1 << state;
+            session[INVERTED_AT] ^= 1 << state;
             for node in 0..nodes {
-                session[2612 + node] &= !(1 << state);
-                session[2612 + node] |= u32::from(marked(node)) << state;
+                session[MARKS_AT + node] &= !(1 << state);
+                session[MARKS_AT + node] |= u32::from(marked(node)) << state;
             }
             let in_layout = all_calls(Engine, &session, &mut random, &label);
             assert_eq!(in_layout, all_calls(Twin, &session, &mut random, &label), "{label}");
             in_layout
         };
-        let marked = |node: usize| whole[2612 + node] >> state & 1 == 1;
+        let marked = |node: usize| whole[MARKS_AT + node] >> state & 1 == 1;
         let (has_mark, blank) = ((0..nodes).any(marked), case.masks[state] == 0);
         assert_eq!(turned(&marked), !has_mark || blank, "{label}");
         assert!(turned(&|_| false), "{label}");
@@ -313,10 +315,10 @@ fn inverted_word_damaged() {
 /// and the value 00FF.
 fn one_inverted_state(mask: u32, marks: [u32; 2]) -> Vec<u32> {
     let mut session = vec![0; SESSION];
-    session[..5].copy_from_slice(&[1, 2, 0, 0b1, mask]);
-    session[20] = 0x00FF;
-    session[52..54].copy_from_slice(&[0x0000, 0x00FF]);
-    session[2612..2614].copy_from_slice(&marks);
+    session[..=MASKS_AT].copy_from_slice(&[1, 2, 0, 0b1, mask]);
+    session[VALUES_AT] = 0x00FF;
+    session[SAMPLES_AT..][..2].copy_from_slice(&[0x0000, 0x00FF]);
+    session[MARKS_AT..][..2].copy_from_slice(&marks);
     session
 }
 
@@ -368,16 +370,16 @@ fn saved_with_a_blank_inverted_state<S: Subject>(subject: S) {
     let (mut fresh, mut room) = (vec![9; SESSION], vec![7; ROOM]);
     let report = Report { fires: true, trials: 4, changes: vec![2, 65, 67] };
     assert_eq!(subject.load(&mut fresh, &case, &mut room), accepted(&report));
-    assert_eq!(fresh[3..7], [0b001, 0x0000, 0xFFFF, 0xFFFF], "the inversion is held as given");
-    assert_eq!(fresh[2612..2614], [0b010, 0b101]);
+    assert_eq!(fresh[INVERTED_AT..][..4], [0b001, 0x0000, 0xFFFF, 0xFFFF], "the inversion is held as given");
+    assert_eq!(fresh[MARKS_AT..][..2], [0b010, 0b101]);
 
     let mut saved = fresh.clone();
-    saved[2612..2614].copy_from_slice(&[0b000, 0b100]);
+    saved[MARKS_AT..][..2].copy_from_slice(&[0b000, 0b100]);
     for (state, node) in (1..=3).flat_map(|state| [(state, 0), (state, 1)]) {
         assert_eq!(subject.matches(&saved, state, node), answered(Ok((state, node) == (3, 1))), "({state}, {node})");
     }
     assert_eq!(subject.fires(&saved), answered(Ok(false)));
-    assert_eq!(subject.order(&saved, &mut [0; 16]), Answer(3 << 40));
+    assert_eq!(subject.order(&saved, &mut [0; STATES]), Answer(3 << 40));
     assert!(all_calls(subject, &saved, &mut Random::new(4, 4), "saved"));
     let held = held(&saved);
     for edge in [(0, 0), (0, 1), (1, 0), (1, 1)] {
@@ -445,8 +447,8 @@ fn sessions_saved_with_blank_inverted_states() {
 fn one_node(links: &[u32], marks: u32, edges: u32) -> Vec<u32> {
     let mut session = vec![0; SESSION];
     session[..3].copy_from_slice(&[links.len() as u32, 1, edges]);
-    session[36..][..links.len()].copy_from_slice(links);
-    session[2612] = marks;
+    session[LINKS_AT..][..links.len()].copy_from_slice(links);
+    session[MARKS_AT] = marks;
     session
 }
 
@@ -465,7 +467,8 @@ fn firing_by_marks_held<S: Subject>(subject: S) {
         edit(subject, &session, held(&session).as_ref(), edges == 0, (0, 0), &label);
     }
     // Every state but one has a mark.
-    for (reached, without) in (1..15).flat_map(|reached| (0..reached + 2).map(move |without| (reached, without))) {
+    let chains = (1..STATES - 1).flat_map(|reached| (0..reached + 2).map(move |without| (reached, without)));
+    for (reached, without) in chains {
         let marks = (0..reached + 2).filter(|state| *state != without).map(|state| 1 << state).sum();
         let session = one_node(&chain_and_orphans(reached), marks, 0);
         let wanted = answered(Ok(without >= reached));
@@ -490,7 +493,7 @@ fn zeroed_memory_is_not_in_layout() {
 fn short_memory() {
     let mut random = Random::new(2, 2);
     let whole = loaded(&Case::random(&mut random, 3, 6, 12, 2));
-    for words in [0, 1, 2, 3, 4, 563, 564, 2612, SESSION - 1] {
+    for words in [0, 1, 2, INVERTED_AT, MASKS_AT, EDGES_AT - 1, EDGES_AT, MARKS_AT, SESSION - 1] {
         let mut session = whole[..words].to_vec();
         let mut room = vec![7; ROOM];
         let case = Case::random(&mut random, 3, 6, 12, 2);
@@ -499,10 +502,10 @@ fn short_memory() {
         assert_eq!(Engine.delete(&mut session, 600, 1, &mut room), refused(3));
         assert_eq!(Engine.matches(&session, 99, 99), refused(3));
         assert_eq!(Engine.fires(&session), refused(3));
-        let mut states = [7; 16];
+        let mut states = [7; STATES];
         assert_eq!(Engine.order(&session, &mut states), refused(3));
         assert_eq!(session, whole[..words]);
-        assert!(room.iter().all(|place| *place == 7) && states == [7; 16]);
+        assert!(room.iter().all(|place| *place == 7) && states == [7; STATES]);
     }
     // Rule 3 comes before rule 10: a short room and a session that is not in layout.
     for places in [0, 1, ROOM - 1] {
@@ -510,7 +513,7 @@ fn short_memory() {
         assert_eq!(Engine.insert(&mut session, 0, 0, &mut vec![7; places]), refused(3));
         assert_eq!(Engine.delete(&mut session, 0, 0, &mut vec![7; places]), refused(3));
     }
-    for places in 0..16 {
+    for places in 0..STATES {
         let mut states = vec![7; places];
         assert_eq!(Engine.order(&whole, &mut states), refused(3));
         assert!(states.iter().all(|place| *place == 7));

@@ -3,6 +3,7 @@
 use comparison::cases::some_inverted;
 use comparison::random::seed;
 use comparison::{Case, Edit, Engine, Follower, Random, Subject, Twin};
+use reference::rules::{EDGES, NODES, ROOM, STATES};
 
 /// Random cases, each followed through at most so many edits. Gives how many edits changed a pair.
 fn follow<S: Subject>(subject: S, test: &str, cases: u64, edits: usize, case: impl Fn(&mut Random) -> Case) -> usize {
@@ -16,13 +17,13 @@ fn follow<S: Subject>(subject: S, test: &str, cases: u64, edits: usize, case: im
         for _ in 0..random.below(edits + 1) {
             let edit = follower.any_edit(&mut random);
             if random.once_in(50) {
-                let _ = follower.edit_in(edit, random.below(8192));
+                let _ = follower.edit_in(edit, random.below(ROOM));
             } else {
                 let _ = follower.edit(edit);
             }
             if random.once_in(8) {
                 let nodes = follower.book.graph.nodes();
-                follower.ask(random.below(18) as u32, random.below(nodes + 1) as u32);
+                follower.ask(random.below(STATES + 2) as u32, random.below(nodes + 1) as u32);
                 follower.ask_trigger();
             }
         }
@@ -41,20 +42,20 @@ fn small(random: &mut Random) -> Case {
 }
 
 fn middle(random: &mut Random) -> Case {
-    let (states, nodes) = (random.between(1, 16), random.between(1, 60));
+    let (states, nodes) = (random.between(1, STATES), random.between(1, 60));
     let (edges, kinds) = (random.below(4 * nodes), random.between(1, 5));
     Case::random(random, states, nodes, edges, kinds)
 }
 
 fn large(random: &mut Random) -> Case {
-    let (states, nodes) = (random.between(12, 16), random.between(400, 512));
-    let (edges, kinds) = (random.between(1000, 2048), random.between(1, 12));
+    let (states, nodes) = (random.between(12, STATES), random.between(400, NODES));
+    let (edges, kinds) = (random.between(1000, EDGES), random.between(1, 12));
     Case::random(random, states, nodes, edges, kinds)
 }
 
 fn full(random: &mut Random) -> Case {
     let kinds = random.between(1, 12);
-    Case::random(random, 16, 512, 2048, kinds)
+    Case::random(random, STATES, NODES, EDGES, kinds)
 }
 
 #[test]
@@ -184,21 +185,21 @@ fn every_graph(states: usize, nodes: usize) {
 /// of zero admit every node, inverted or not.
 #[test]
 fn chains_that_fill_the_change_room() {
-    let nodes = 512;
+    let nodes = NODES as u32;
     for (against, inverted) in [(false, 0x0000), (true, 0x0000), (false, 0xFFFF), (true, 0xAAAA)] {
         let number = |place: u32| if against { nodes - 1 - place } else { place };
         let mut case = Case { inverted, samples: vec![0; nodes as usize], ..Case::default() };
-        for state in 0..16 {
+        for state in 0..STATES {
             case.state(0, 0xFFFF, 1 << state);
         }
         case.edges(&(1..nodes).map(|place| (number(place - 1), number(place))).collect());
         let last = number(nodes - 1);
         let label = format!("chain against the grain: {against}, inverted {inverted:#x}");
         let mut follower = Follower::load(Engine, &mut Random::new(1, 1), &label, &case);
-        let report = follower.edit_in(Edit::Insert(last, last), 8192).unwrap();
-        assert_eq!((report.fires, report.trials, report.changes.len()), (true, 8192, 8192), "{label}");
-        let report = follower.edit_in(Edit::Delete(last, last), 8192).unwrap();
-        assert_eq!((report.fires, report.trials, report.changes.len()), (false, 8192, 8192), "{label}");
-        assert_eq!(follower.edit_in(Edit::Insert(last, last), 8191), Err(3), "{label}");
+        let report = follower.edit_in(Edit::Insert(last, last), ROOM).unwrap();
+        assert_eq!((report.fires, report.trials, report.changes.len()), (true, ROOM, ROOM), "{label}");
+        let report = follower.edit_in(Edit::Delete(last, last), ROOM).unwrap();
+        assert_eq!((report.fires, report.trials, report.changes.len()), (false, ROOM, ROOM), "{label}");
+        assert_eq!(follower.edit_in(Edit::Insert(last, last), ROOM - 1), Err(3), "{label}");
     }
 }

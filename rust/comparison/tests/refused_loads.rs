@@ -4,7 +4,7 @@ use comparison::random::seed;
 use comparison::subject::{accepted, refused};
 use comparison::{Case, Engine, Random, Subject};
 use reference::Book;
-use reference::rules::{ROOM, SESSION};
+use reference::rules::{EDGES, NODES, ROOM, SESSION, STATES};
 
 /// Breaks a rule of the load in one of the ways that it can be broken.
 fn damage(random: &mut Random, case: &mut Case, rule: u8) {
@@ -12,7 +12,7 @@ fn damage(random: &mut Random, case: &mut Case, rule: u8) {
     match rule {
         4 => match random.below(7) {
             0 => *case = Case { masks: vec![], values: vec![], links: vec![], ..case.clone() },
-            1 => (0..17).for_each(|_| case.state(random.word() as u16, 0, 0)),
+            1 => (0..=STATES).for_each(|_| case.state(random.word() as u16, 0, 0)),
             2 => drop(case.masks.pop()),
             3 => case.values.push(random.word() as u16),
             4 => case.links.push(0),
@@ -27,19 +27,21 @@ fn damage(random: &mut Random, case: &mut Case, rule: u8) {
                 *word |= 1 << bit;
             }
         }
-        6 => case.samples.resize(random.between(513, 700), 0),
+        6 => case.samples.resize(random.between(NODES + 1, 700), 0),
         7 => match random.below(3) {
             0 => case.starts.push(0),
             1 => case.ends.push(0),
             _ => {
-                let long = random.between(2049, 2200) as u32;
+                let long = random.between(EDGES + 1, 2200) as u32;
                 case.starts = (0..long).map(|i| i / 64).collect();
                 case.ends = (0..long).map(|i| i % 64).collect();
             }
         },
         8 => {
             let nodes = case.samples.len() as u32;
-            let outside = *random.pick(&[nodes, nodes + 1, 511.max(nodes), 512.max(nodes), 1 << 23, u32::MAX]);
+            let most = NODES as u32;
+            let outside = [nodes, nodes + 1, nodes.max(most - 1), nodes.max(most), 1 << 23, u32::MAX];
+            let outside = *random.pick(&outside);
             let edges = if random.once_in(2) { &mut case.starts } else { &mut case.ends };
             if let Some(last) = edges.len().checked_sub(1) {
                 let place = random.between(0, last);
@@ -68,9 +70,9 @@ fn the_first_rule_broken_is_answered() {
     let mut answers = [[0; 2]; 15];
     for number in 0..40_000 {
         let mut random = Random::new(seed, number);
-        let nodes = *random.pick(&[0, 1, 2, 5, 20, 511, 512]);
-        let states = random.between(1, 16);
-        let edges = random.below((4 * nodes).min(2048) + 1);
+        let nodes = *random.pick(&[0, 1, 2, 5, 20, NODES - 1, NODES]);
+        let states = random.between(1, STATES);
+        let edges = random.below((4 * nodes).min(EDGES) + 1);
         let mut case = Case::random(&mut random, states, nodes, edges, 3);
         let several = random.below(2);
         let mut rules = vec![random.between(4, 9) as u8];
@@ -83,7 +85,7 @@ fn the_first_rule_broken_is_answered() {
         let mut lengths = [SESSION + random.below(3), ROOM + random.below(3)];
         if random.once_in(10) {
             let short = random.below(2);
-            lengths[short] = *random.pick(&[0, 1, 3123, 8191]);
+            lengths[short] = *random.pick(&[0, 1, SESSION - 1, ROOM - 1]);
         }
         let mut session: Vec<u32> = (0..lengths[0]).map(|i| i as u32 ^ 0xA5A5).collect();
         let mut room: Vec<i32> = (0..lengths[1]).map(|i| i as i32 ^ 0x5A5A).collect();
@@ -111,7 +113,7 @@ fn the_first_rule_broken_is_answered() {
 /// A state that is not there can not be inverted: it is given in part, which is told before its links are looked at.
 #[test]
 fn inverted_states_that_are_not_there() {
-    for states in 1..=16 {
+    for states in 1..=STATES {
         let mut case = Case { samples: vec![0; 3], ..Case::default() };
         (0..states).for_each(|_| case.state(0xFFFF, 0, 0));
         for bit in 0..32 {

@@ -4,7 +4,7 @@ use comparison::random::seed;
 use comparison::{Case, Random};
 use reference::Book;
 use reference::layout::image_of;
-use reference::rules::{ROOM, SESSION};
+use reference::rules::{NODES, ROOM, SESSION, STATES};
 use trigger_engine::{Change, Report, Rule, Session, State};
 
 /// What a report says, with changes as numbers again.
@@ -25,7 +25,7 @@ fn a_session_answers_as_the_book_does() {
     for number in 0..2_000 {
         let random = &mut Random::new(seed, number);
         let label = format!("seed {seed}, case {number}");
-        let (states, nodes) = (random.between(1, 16), random.between(1, 20));
+        let (states, nodes) = (random.between(1, STATES), random.between(1, 20));
         let edges = random.below(3 * nodes);
         let case = Case::random(random, states, nodes, edges, 3);
         let fields = case.masks.iter().zip(&case.values).zip(&case.links).enumerate();
@@ -67,8 +67,8 @@ fn rules_and_their_numbers() {
 
 #[test]
 fn changes_and_their_numbers() {
-    for node in 0..512 {
-        for state in 1..=16 {
+    for node in 0..NODES as u16 {
+        for state in 1..=STATES as u8 {
             for begins in [true, false] {
                 let change = Change { state, node, begins };
                 assert_eq!(Change::from_number(change.number()), change);

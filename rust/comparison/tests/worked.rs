@@ -1,5 +1,7 @@
 //! The cases worked by hand, through the safe calls.
 
+use reference::layout::{EDGES_AT, INVERTED_AT, LINKS_AT, MARKS_AT, MASKS_AT, SAMPLES_AT, VALUES_AT};
+use reference::rules::SESSION;
 use trigger_engine::{Change, Rule, Session, State};
 
 fn state(mask: u16, value: u16, links: u32) -> State {
@@ -87,7 +89,7 @@ fn an_inverted_state_in_a_ring() {
     assert_eq!(told(session.insert(0, 1)), Ok((false, 1, vec![])));
     assert_eq!(told(session.insert(1, 0)), Ok((true, 2, vec![begins(2, 0), begins(1, 1)])));
     assert_eq!(told(session.delete(0, 1)), Ok((false, 2, vec![ceases(2, 0), ceases(1, 1)])));
-    assert_eq!(session.words()[3], 0b01);
+    assert_eq!(session.words()[INVERTED_AT], 0b01);
 }
 
 /// The one exception: inverted or not, a mask of zero admits every node. The session holds the inversion as it was given.
@@ -97,7 +99,7 @@ fn an_inverted_mask_of_zero_admits_every_node() {
     let samples = [0x0000, 0x00FF, 0xFFFF];
     let report = told(session.load(&[inverted(0, 0x00FF, 0)], &samples, &[]));
     assert_eq!(report, Ok((true, 3, vec![begins(1, 0), begins(1, 1), begins(1, 2)])));
-    assert_eq!(session.words()[3..5], [0b1, 0x0000]);
+    assert_eq!(session.words()[INVERTED_AT..][..2], [0b1, 0x0000]);
     assert_eq!(session.matches(1, 1), Ok(true));
     // With one bit in the mask it is no exception: words that have bit 0, as the value has, are not admitted.
     let report = told(session.load(&[inverted(1, 0x00FF, 0)], &samples, &[]));
@@ -108,7 +110,7 @@ fn an_inverted_mask_of_zero_admits_every_node() {
     let report = told(session.load(&states, &samples[..2], &[(0, 1)]));
     assert_eq!(report, Ok((true, 4, vec![begins(1, 0), begins(2, 0), begins(1, 1)])));
     assert_eq!(told(session.insert(1, 0)), Ok((true, 1, vec![begins(2, 1)])));
-    assert_eq!(session.words()[3..6], [0b01, 0x0000, 0x0000]);
+    assert_eq!(session.words()[INVERTED_AT..][..3], [0b01, 0x0000, 0x0000]);
 }
 
 /// Any word and the idle word in turns. State 1, blank and inverted, admits the idle word too.
@@ -123,7 +125,7 @@ fn a_blank_inverted_state_in_a_ring() {
     assert_eq!(told(session.insert(0, 0)), Ok((true, 1, vec![begins(1, 0)])));
     assert_eq!(told(session.delete(0, 1)), Ok((true, 0, vec![])));
     assert_eq!(told(session.delete(0, 0)), Ok((false, 3, vec![ceases(1, 0), ceases(2, 0), ceases(1, 1)])));
-    assert_eq!(session.words()[3..6], [0b01, 0x0000, 0xFFFF]);
+    assert_eq!(session.words()[INVERTED_AT..][..3], [0b01, 0x0000, 0xFFFF]);
 }
 
 #[test]
@@ -227,20 +229,20 @@ fn the_worked_memory() {
     let mut session = Session::new();
     let states = [state(0xFFFF, 1, 0b10), state(0xFFFF, 2, 0b01)];
     session.load(&states, &[1, 2], &[(0, 1), (1, 0)]).unwrap();
-    let mut wanted = vec![0; 3124];
-    wanted[..3].fill(2);
-    wanted[4..6].fill(65_535);
-    for at in [20, 52, 2612] {
+    let mut wanted = vec![0; SESSION];
+    wanted[..INVERTED_AT].fill(2);
+    wanted[MASKS_AT..][..2].fill(65_535);
+    for at in [VALUES_AT, SAMPLES_AT, MARKS_AT] {
         wanted[at..at + 2].copy_from_slice(&[1, 2]);
     }
-    wanted[36..38].copy_from_slice(&[2, 1]);
-    wanted[564..566].copy_from_slice(&[1, 512]);
+    wanted[LINKS_AT..][..2].copy_from_slice(&[2, 1]);
+    wanted[EDGES_AT..][..2].copy_from_slice(&[1, 512]);
     assert_eq!(session.words(), wanted);
     assert_eq!(session.order(), Ok(vec![1, 2]));
 
     // The same marks where state 2 is anything but 1.
     session.load(&[states[0], inverted(0xFFFF, 1, 0b01)], &[1, 2], &[(0, 1), (1, 0)]).unwrap();
-    wanted[3] = 0b10;
-    wanted[21] = 1;
+    wanted[INVERTED_AT] = 0b10;
+    wanted[VALUES_AT + 1] = 1;
     assert_eq!(session.words(), wanted);
 }

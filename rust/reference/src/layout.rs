@@ -5,6 +5,21 @@ use crate::standing::admitted;
 use crate::trigger::bits;
 use crate::{Book, Graph, Relation, State, Trigger};
 
+/// The place of the set of inverted states, after the three counts. Each section follows the one before it.
+pub const INVERTED_AT: usize = 3;
+/// The place of the masks.
+pub const MASKS_AT: usize = INVERTED_AT + 1;
+/// The place of the values.
+pub const VALUES_AT: usize = MASKS_AT + STATES;
+/// The place of the links.
+pub const LINKS_AT: usize = VALUES_AT + STATES;
+/// The place of the samples.
+pub const SAMPLES_AT: usize = LINKS_AT + STATES;
+/// The place of the edges.
+pub const EDGES_AT: usize = SAMPLES_AT + NODES;
+/// The place of the marks.
+pub const MARKS_AT: usize = EDGES_AT + EDGES;
+
 /// A section: its words, then zeros up to its size.
 fn section(size: usize, words: impl Iterator<Item = u32>) -> Vec<u32> {
     let mut section: Vec<u32> = words.collect();
@@ -22,13 +37,13 @@ pub fn image(trigger: &Trigger, graph: &Graph, marks: &Relation) -> Vec<u32> {
         marked.map(|state| 1 << state).sum()
     };
     let image = [
-        section(3, counts.iter().map(|count| *count as u32)),
+        section(INVERTED_AT, counts.iter().map(|count| *count as u32)),
         section(1, std::iter::once(trigger.inverted_word())),
         section(STATES, states().map(|state| state.mask.into())),
         section(STATES, states().map(|state| state.value.into())),
         section(STATES, states().map(State::link_word)),
         section(NODES, graph.samples.iter().map(|sample| (*sample).into())),
-        section(EDGES, graph.edges().map(|(start, end)| (start * 512 + end) as u32)),
+        section(EDGES, graph.edges().map(|(start, end)| (start * NODES + end) as u32)),
         section(NODES, (0..graph.nodes()).map(marks_of)),
     ]
     .concat();
@@ -48,14 +63,14 @@ pub fn held(memory: &[u32]) -> Option<(Trigger, Graph, Relation)> {
     if !(1..=STATES).contains(&states) || nodes > NODES || edges > EDGES {
         return None;
     }
-    let inverted = fixed[3];
+    let inverted = fixed[INVERTED_AT];
     let short = |word: &u32| u16::try_from(*word).ok();
-    let masks: Vec<u16> = fixed[4..][..states].iter().map(short).collect::<Option<_>>()?;
-    let values: Vec<u16> = fixed[20..][..states].iter().map(short).collect::<Option<_>>()?;
-    let links = &fixed[36..][..states];
-    let samples: Vec<u16> = fixed[52..][..nodes].iter().map(short).collect::<Option<_>>()?;
-    let numbers = &fixed[564..][..edges];
-    let words = &fixed[2612..][..nodes];
+    let masks: Vec<u16> = fixed[MASKS_AT..][..states].iter().map(short).collect::<Option<_>>()?;
+    let values: Vec<u16> = fixed[VALUES_AT..][..states].iter().map(short).collect::<Option<_>>()?;
+    let links = &fixed[LINKS_AT..][..states];
+    let samples: Vec<u16> = fixed[SAMPLES_AT..][..nodes].iter().map(short).collect::<Option<_>>()?;
+    let numbers = &fixed[EDGES_AT..][..edges];
+    let words = &fixed[MARKS_AT..][..nodes];
 
     if bits(inverted).any(|bit| bit >= states) {
         return None;
@@ -69,7 +84,7 @@ pub fn held(memory: &[u32]) -> Option<(Trigger, Graph, Relation)> {
     let trigger = Trigger::new(&masks, &values, links, inverted);
     let mut graph = Graph::new(&samples);
     for number in numbers {
-        let (start, end) = (*number as usize / 512, *number as usize % 512);
+        let (start, end) = (*number as usize / NODES, *number as usize % NODES);
         if start >= nodes || end >= nodes {
             return None;
         }

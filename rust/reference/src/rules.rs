@@ -1,5 +1,6 @@
 //! The numbered rules, each call's in their sequence: the first that is broken is the answer.
 
+use crate::layout::MARKS_AT;
 use crate::trigger::bits;
 use crate::{Graph, Trigger};
 
@@ -10,9 +11,9 @@ pub const NODES: usize = 512;
 /// The most edges of a graph.
 pub const EDGES: usize = 2048;
 /// The fixed size of a session in words.
-pub const SESSION: usize = 3124;
-/// The places that a change room has at least.
-pub const ROOM: usize = 8192;
+pub const SESSION: usize = MARKS_AT + NODES;
+/// The places that a change room has at least: one for each pair.
+pub const ROOM: usize = NODES * STATES;
 
 /// What a load is given, a list for each field, and the set of inverted states.
 #[derive(Clone, Copy, Debug)]

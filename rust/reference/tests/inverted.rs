@@ -1,7 +1,7 @@
 //! Inverted states: what they admit, how they are loaded, and where they are held. A state is blank where its mask is
 //! zero.
 
-use reference::layout::{held, image_of};
+use reference::layout::{INVERTED_AT, MARKS_AT, MASKS_AT, held, image_of};
 use reference::rules::{ROOM, SESSION};
 use reference::{Book, Given, Report, State};
 
@@ -118,16 +118,16 @@ fn the_set_in_memory() {
     // State 1 wants anything but 7, state 2 wants 7.
     let book = load(&given(&[7, 7], &[0, 0], 0b01, &[7, 8])).unwrap();
     let image = image_of(&book);
-    assert_eq!(image[..4], [2, 2, 0, 0b01]);
-    assert_eq!(image[2612..2614], [0b10, 0b01]);
+    assert_eq!(image[..MASKS_AT], [2, 2, 0, 0b01]);
+    assert_eq!(image[MARKS_AT..][..2], [0b10, 0b01]);
     assert_eq!(held(&image), Some((book.trigger, book.graph, book.standing)));
 
     let mut unmarked = image.clone();
-    unmarked[2612..2614].fill(0);
+    unmarked[MARKS_AT..][..2].fill(0);
     for set in 0..8 {
         let with = |memory: &[u32]| {
             let mut memory = memory.to_vec();
-            memory[3] = set;
+            memory[INVERTED_AT] = set;
             held(&memory).map(|(trigger, _, _)| trigger.inverted_word())
         };
         assert_eq!(with(&image), (set == 0b01).then_some(set), "each of both has a mark");
@@ -142,15 +142,15 @@ fn a_blank_state_in_memory() {
     let given = Given { masks: &[0, 0xFFFF], ..given(&[7, 7], &[0, 0], 0b11, &[7, 8]) };
     let book = load(&given).unwrap();
     let image = image_of(&book);
-    assert_eq!(image[..6], [2, 2, 0, 0b11, 0, 0xFFFF]);
-    assert_eq!(image[2612..2614], [0b01, 0b11]);
+    assert_eq!(image[..MASKS_AT + 2], [2, 2, 0, 0b11, 0, 0xFFFF]);
+    assert_eq!(image[MARKS_AT..][..2], [0b01, 0b11]);
     assert_eq!(held(&image), Some((book.trigger, book.graph, book.standing)));
 
     for set in 0..4 {
         for marks in 0..16 {
             let mut memory = image.clone();
-            memory[3] = set;
-            memory[2612..2614].copy_from_slice(&[marks & 3, marks >> 2]);
+            memory[INVERTED_AT] = set;
+            memory[MARKS_AT..][..2].copy_from_slice(&[marks & 3, marks >> 2]);
             // Marks of state 2 are at node 1 where it is inverted, and at node 0 where it is not.
             let stray = if set & 0b10 == 0 { 0b10 << 2 } else { 0b10 };
             let wanted = (marks & stray == 0).then_some(set);
