@@ -6,11 +6,11 @@ use crate::{Book, Given, Report};
 /// A frame of the input.
 #[derive(Clone, Copy, Debug, PartialEq, Eq)]
 enum Frame {
-    State { mask: u16, value: u16, links: u16, inverted: bool },
+    State { mask: u16, value: u16, links: u32, inverted: bool },
     Node { sample: u16 },
     Run,
-    Insert { start: u16, end: u16 },
-    Delete { start: u16, end: u16 },
+    Insert { start: u32, end: u32 },
+    Delete { start: u32, end: u32 },
     Order,
 }
 
@@ -47,36 +47,59 @@ fn lines(input: &[u8]) -> Vec<&[u8]> {
     lines
 }
 
-/// The number that four digits say, upper-case and most significant first.
-fn word(digits: &[u8]) -> Option<u16> {
+/// The number that digits say, upper-case and most significant first.
+fn number(digits: &[u8]) -> Option<u32> {
     let digit = |byte: &u8| match byte {
-        b'0'..=b'9' => Some(u16::from(byte - b'0')),
-        b'A'..=b'F' => Some(u16::from(byte - b'A') + 10),
+        b'0'..=b'9' => Some(u32::from(byte - b'0')),
+        b'A'..=b'F' => Some(u32::from(byte - b'A') + 10),
         _ => None,
     };
-    assert_eq!(digits.len(), 4);
-    let digits: Vec<u16> = digits.iter().map(digit).collect::<Option<_>>()?;
-    Some(digits.iter().fold(0, |word, digit| word * 16 + digit))
+    let digits: Vec<u32> = digits.iter().map(digit).collect::<Option<_>>()?;
+    Some(digits.iter().fold(0, |number, digit| number * 16 + digit))
+}
+
+/// The numbers of fields with so many digits each, where the digits are those of the fields and no more.
+fn fields<const N: usize>(digits: &[u8], lengths: [usize; N]) -> Option<[u32; N]> {
+    let (mut numbers, mut rest) = ([0; N], digits);
+    for (place, length) in numbers.iter_mut().zip(lengths) {
+        let (field, after) = rest.split_at_checked(length)?;
+        *place = number(field)?;
+        rest = after;
+    }
+    rest.is_empty().then_some(numbers)
 }
 
 /// The frame that a line is.
 fn frame(line: &[u8]) -> Option<Frame> {
-    let kind = line.get(..2)?;
-    let rest = &line[2..];
-    if !rest.len().is_multiple_of(4) {
-        return None;
-    }
-    let words: Vec<u16> = rest.chunks(4).map(word).collect::<Option<_>>()?;
-    match (kind, words.as_slice()) {
-        (b"01", &[mask, value, links]) => Some(Frame::State { mask, value, links, inverted: false }),
-        (b"02", &[sample]) => Some(Frame::Node { sample }),
-        (b"03", &[]) => Some(Frame::Run),
-        (b"04", &[start, end]) => Some(Frame::Insert { start, end }),
-        (b"05", &[start, end]) => Some(Frame::Delete { start, end }),
-        (b"06", &[]) => Some(Frame::Order),
-        (b"07", &[mask, value, links]) => Some(Frame::State { mask, value, links, inverted: true }),
+    let (kind, rest) = line.split_at_checked(2)?;
+    match kind {
+        b"01" => old_state(rest, false),
+        b"02" => fields(rest, [4]).map(|[sample]| Frame::Node { sample: sample as u16 }),
+        b"03" => fields(rest, []).map(|[]| Frame::Run),
+        b"04" => fields(rest, [4, 4]).map(|[start, end]| Frame::Insert { start, end }),
+        b"05" => fields(rest, [4, 4]).map(|[start, end]| Frame::Delete { start, end }),
+        b"06" => fields(rest, []).map(|[]| Frame::Order),
+        b"07" => old_state(rest, true),
+        b"0A" => state(rest),
         _ => None,
     }
+}
+
+/// A state of the older frames, `01` and `07`: its links are those to the first sixteen states.
+fn old_state(rest: &[u8], inverted: bool) -> Option<Frame> {
+    let [mask, value, links] = fields(rest, [4, 4, 4])?;
+    Some(Frame::State { mask: mask as u16, value: value as u16, links, inverted })
+}
+
+/// A state of frame `0A`, where its inversion byte is one of the two that say something.
+fn state(rest: &[u8]) -> Option<Frame> {
+    let [inversion, mask, value, links] = fields(rest, [2, 4, 4, 8])?;
+    let inverted = match inversion {
+        0 => false,
+        1 => true,
+        _ => return None,
+    };
+    Some(Frame::State { mask: mask as u16, value: value as u16, links, inverted })
 }
 
 /// An accepted line and a line for each change.
@@ -109,7 +132,7 @@ impl Program {
                 }
                 self.masks.push(mask);
                 self.values.push(value);
-                self.links.push(links.into());
+                self.links.push(links);
                 Ok(String::new())
             }
             Frame::Node { .. } if self.samples.len() == NODES => Err(6),
@@ -140,11 +163,11 @@ fn after_run(book: &mut Book, frame: Frame) -> Result<String, u8> {
     match frame {
         Frame::State { .. } | Frame::Node { .. } | Frame::Run => Err(2),
         Frame::Insert { start, end } => {
-            let report = book.insert(ROOM, start.into(), end.into())?;
+            let report = book.insert(ROOM, start, end)?;
             Ok(told(&report))
         }
         Frame::Delete { start, end } => {
-            let report = book.delete(ROOM, start.into(), end.into())?;
+            let report = book.delete(ROOM, start, end)?;
             Ok(told(&report))
         }
         Frame::Order => {
@@ -172,7 +195,7 @@ mod tests {
     fn lines_that_are_no_frames() {
         assert_eq!(output(b""), b"");
         let lengths = ["", "0", "3", "07", "0300", "01FFFF0001000", "07FFFF0001000", "07FFFF000100000"];
-        let kinds_and_digits = ["00", "0A", "80", "03\r", " 03", "02000a", "07FFFF0001000a"];
+        let kinds_and_digits = ["00", "08", "09", "0B", "80", "03\r", " 03", "02000a", "07FFFF0001000a"];
         for line in lengths.into_iter().chain(kinds_and_digits) {
             assert_eq!(output(format!("{line}\n").as_bytes()), b"8F01\n", "{line:?}");
         }
@@ -187,9 +210,7 @@ mod tests {
         assert_eq!(output(input), b"800100020002\n8100000002\n8100000041\n8F02\n");
         // A mask of zero admits every node.
         assert_eq!(output(b"070000FFFF0000\n020000\n02FFFF\n03\n"), b"800100020002\n8100000001\n8100000041\n");
-        // A link to a state that is not there, and a 17th state of either kind.
+        // A link to a state that is not there.
         assert_eq!(output(b"07FFFF00010002\n03\n"), b"8F05\n");
-        let states = "07000000000000\n01000000000000\n".repeat(9);
-        assert_eq!(output(states.as_bytes()), b"8F04\n8F04\n");
     }
 }

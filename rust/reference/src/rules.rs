@@ -5,7 +5,7 @@ use crate::trigger::bits;
 use crate::{Graph, Trigger};
 
 /// The most states of a trigger.
-pub const STATES: usize = 16;
+pub const STATES: usize = 32;
 /// The most nodes of a graph.
 pub const NODES: usize = 512;
 /// The most edges of a graph.

@@ -2,12 +2,12 @@
 //! zero.
 
 use reference::layout::{INVERTED_AT, MARKS_AT, MASKS_AT, held, image_of};
-use reference::rules::{ROOM, SESSION};
+use reference::rules::{ROOM, SESSION, STATES};
 use reference::{Book, Given, Report, State};
 
 /// What a load is given for a trigger of masks FFFF; links may be in part or go too far.
 fn given<'a>(values: &'a [u16], links: &'a [u32], inverted: u32, samples: &'a [u16]) -> Given<'a> {
-    let masks = &[0xFFFF; 20][..values.len()];
+    let masks = &[0xFFFF; STATES + 1][..values.len()];
     Given { masks, values, links, inverted, samples, starts: &[], ends: &[] }
 }
 
@@ -98,18 +98,21 @@ fn a_blank_inverted_state_in_a_ring() {
 /// A state that is not there can not be inverted: rule 4, which comes before the rule of links.
 #[test]
 fn an_inversion_without_its_state() {
-    for states in 1..=16 {
-        let (values, links, wide) = (vec![0; states], vec![0; states], vec![1 << states; states]);
+    for states in 1..=STATES {
+        let (values, links) = (vec![0; states], vec![0; states]);
         for bit in 0..32 {
             let set = 1 << bit;
             let wanted = if bit < states { Ok(()) } else { Err(4) };
             assert_eq!(load(&given(&values, &links, set, &[])).map(|_| ()), wanted);
-            let wanted = if bit < states { Err(5) } else { Err(4) };
-            assert_eq!(load(&given(&values, &wide, set, &[])).map(|_| ()), wanted);
+            // A trigger that has a state for each bit has no link that goes too far.
+            if let Some(link) = 1u32.checked_shl(states as u32) {
+                let wanted = if bit < states { Err(5) } else { Err(4) };
+                assert_eq!(load(&given(&values, &vec![link; states], set, &[])).map(|_| ()), wanted);
+            }
         }
     }
     assert_eq!(load(&given(&[], &[], 0, &[])), Err(4));
-    assert_eq!(load(&given(&[0; 17], &[0; 17], 0, &[])), Err(4));
+    assert_eq!(load(&given(&[0; STATES + 1], &[0; STATES + 1], 0, &[])), Err(4));
 }
 
 /// Word 3 holds the set, and marks are tested against admission as it says.
