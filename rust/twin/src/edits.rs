@@ -2,14 +2,16 @@
 
 use crate::grow::grow;
 use crate::incoming::{Edges, out_of};
-use crate::layout::{EDGES, EDGES_AT, MARKS_AT, NODES, ROOM, SAMPLES_AT, SESSION, Shape, shape, union};
+use crate::layout::{
+    EDGES, EDGES_AT, HALF, MARKS_AT, NODES, ROOM, SAMPLES_AT, SESSION, STATES, Shape, is_wide, shape, union,
+};
 use crate::refine::{Waiting, refine, uncarried};
 use crate::report::{Changes, NodeSet, accepted};
 
 /// Rules 3, 10 and 11, and the edge's number and place: `Ok` where it is held.
-type Looked = (Shape, usize, u32, Result<usize, usize>);
+type Looked<const WIDTH: usize> = (Shape<WIDTH>, usize, u32, Result<usize, usize>);
 
-fn look(session: &[u32], start: u32, end: u32, room: usize) -> Result<Looked, u64> {
+fn look<const WIDTH: usize>(session: &[u32], start: u32, end: u32, room: usize) -> Result<Looked<WIDTH>, u64> {
     if session.len() < SESSION || room < ROOM {
         return Err(3);
     }
@@ -33,7 +35,15 @@ fn sections(session: &mut [u32], edges: usize) -> (&[u32; NODES], &[u32], &mut [
 
 /// Inserts an edge.
 pub fn insert(session: &mut [u32], start: u32, end: u32, changes: &mut [i32]) -> u64 {
-    let (shape, from, number, place) = match look(session, start, end, changes.len()) {
+    if is_wide(session) {
+        insert_in::<STATES>(session, start, end, changes)
+    } else {
+        insert_in::<HALF>(session, start, end, changes)
+    }
+}
+
+fn insert_in<const WIDTH: usize>(session: &mut [u32], start: u32, end: u32, changes: &mut [i32]) -> u64 {
+    let (shape, from, number, place) = match look::<WIDTH>(session, start, end, changes.len()) {
         Ok(looked) => looked,
         Err(rule) => return rule,
     };
@@ -95,7 +105,15 @@ pub fn insert(session: &mut [u32], start: u32, end: u32, changes: &mut [i32]) ->
 
 /// Deletes an edge.
 pub fn delete(session: &mut [u32], start: u32, end: u32, changes: &mut [i32]) -> u64 {
-    let (shape, from, _, place) = match look(session, start, end, changes.len()) {
+    if is_wide(session) {
+        delete_in::<STATES>(session, start, end, changes)
+    } else {
+        delete_in::<HALF>(session, start, end, changes)
+    }
+}
+
+fn delete_in<const WIDTH: usize>(session: &mut [u32], start: u32, end: u32, changes: &mut [i32]) -> u64 {
+    let (shape, from, _, place) = match look::<WIDTH>(session, start, end, changes.len()) {
         Ok(looked) => looked,
         Err(rule) => return rule,
     };

@@ -13,9 +13,9 @@ pub struct Trials {
 }
 
 /// Grows the trial set from the seeds at one node.
-pub fn grow(
-    states: &States,
-    callers: &Callers,
+pub fn grow<const WIDTH: usize>(
+    states: &States<WIDTH>,
+    callers: &Callers<WIDTH>,
     edges: &mut Edges,
     samples: &[u32; NODES],
     marks: &[u32; NODES],

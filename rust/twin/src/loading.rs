@@ -2,12 +2,12 @@
 
 use crate::incoming::Edges;
 use crate::layout::{
-    EDGES, EDGES_AT, INVERTED_AT, LINKS_AT, MARKS_AT, MASKS_AT, NODES, ROOM, SAMPLES_AT, SESSION, STATES, VALUES_AT,
-    union,
+    EDGES, EDGES_AT, HALF, INVERTED_AT, LINKS_AT, MARKS_AT, MASKS_AT, NODES, ROOM, SAMPLES_AT, SESSION, STATES,
+    VALUES_AT, union,
 };
 use crate::refine::{Waiting, refine};
 use crate::report::{Changes, accepted};
-use crate::states::States;
+use crate::states::{States, first_states};
 
 /// What a load is given, a slice for each field, and the set of inverted states.
 #[derive(Clone, Copy, Debug, Default)]
@@ -37,10 +37,11 @@ fn rule(load: &Load, session: usize, room: usize) -> u64 {
     if states == 0 || states > STATES || load.values.len() != states || load.links.len() != states {
         return 4;
     }
-    if load.inverted >> states != 0 {
+    let missing = !first_states(states);
+    if load.inverted & missing != 0 {
         return 4;
     }
-    if union(load.links) >> states != 0 {
+    if union(load.links) & missing != 0 {
         return 5;
     }
     if nodes > NODES {
@@ -76,6 +77,15 @@ pub fn load(session: &mut [u32], load: &Load, changes: &mut [i32]) -> u64 {
     if rule != 0 {
         return rule;
     }
+    if load.masks.len() > HALF {
+        load_in::<STATES>(session, load, changes)
+    } else {
+        load_in::<HALF>(session, load, changes)
+    }
+}
+
+/// The load where no rule is broken.
+fn load_in<const WIDTH: usize>(session: &mut [u32], load: &Load, changes: &mut [i32]) -> u64 {
     let fixed: &mut [u32; SESSION] = session.first_chunk_mut().expect("rule 3 holds");
     let (count, nodes, edges) = (load.masks.len(), load.samples.len(), load.starts.len());
     fixed[..INVERTED_AT].copy_from_slice(&[count as u32, nodes as u32, edges as u32]);
@@ -86,7 +96,7 @@ pub fn load(session: &mut [u32], load: &Load, changes: &mut [i32]) -> u64 {
     fill(&mut fixed[LINKS_AT..SAMPLES_AT], load.links.iter().copied());
     fill(&mut fixed[SAMPLES_AT..EDGES_AT], load.samples.iter().map(|word| (*word).into()));
     fill(&mut fixed[EDGES_AT..MARKS_AT], numbers);
-    let states = States::read(fixed, count);
+    let states = States::<WIDTH>::read(fixed, count);
     fill(&mut fixed[MARKS_AT..], load.samples.iter().map(|sample| states.admitting((*sample).into())));
 
     let (front, marks) = fixed.split_at_mut(MARKS_AT);

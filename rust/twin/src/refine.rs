@@ -50,7 +50,12 @@ pub fn reached(edges: &[u32], needed: u32, held: impl Fn(usize) -> u32) -> u32 {
 }
 
 /// The states of a tentative set at a node that have a link without carrier.
-pub fn uncarried(states: &States, edges: &[u32], set: u32, held: impl Fn(usize) -> u32) -> u32 {
+pub fn uncarried<const WIDTH: usize>(
+    states: &States<WIDTH>,
+    edges: &[u32],
+    set: u32,
+    held: impl Fn(usize) -> u32,
+) -> u32 {
     let needed = states.targets(set);
     let reached = reached(edges, needed, held);
     if needed & !reached == 0 {
@@ -61,9 +66,9 @@ pub fn uncarried(states: &States, edges: &[u32], set: u32, held: impl Fn(usize) 
 
 /// Clears tentative pairs that have no support among settled and tentative ones. `dropped` is told each node with what
 /// it lost, and whether to go on.
-pub fn refine(
-    states: &States,
-    callers: &Callers,
+pub fn refine<const WIDTH: usize>(
+    states: &States<WIDTH>,
+    callers: &Callers<WIDTH>,
     edges: &mut Edges,
     settled: &[u32; NODES],
     tentative: &mut [u32; NODES],
