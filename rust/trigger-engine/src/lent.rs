@@ -31,6 +31,9 @@
 
 use crate::{Rule, foreign};
 
+/// The most states of a trigger, and the places that a walk order is written to.
+pub const MAX_STATES: usize = 32;
+
 /// What a load is given, a slice for each field, and the set of inverted states. Masks, values and links go together,
 /// starts and ends go together.
 #[derive(Clone, Copy, Debug, Default)]
@@ -122,8 +125,25 @@ pub fn fires(session: &[u32]) -> Answer {
     foreign::fires(session)
 }
 
-/// Writes the numbers of the states in walk order, and zeros after them, into the first 16 places. Fewer places are
+/// Writes the numbers of the states in walk order, and zeros after them, into the first 32 places. Fewer places are
 /// refused with rule 3.
+///
+/// ```
+/// use trigger_engine::lent::{self, Load, MAX_STATES};
+///
+/// let mut session = vec![0; lent::session_words()];
+/// let mut changes = vec![0; lent::change_places()];
+/// // State One is linked to state 32, all others to none.
+/// let mut links = [0; MAX_STATES];
+/// links[0] = 1 << 31;
+/// let load = Load { masks: &[0; MAX_STATES], values: &[0; MAX_STATES], links: &links, ..Load::default() };
+/// assert_eq!(lent::load(&mut session, &load, &mut changes).rule(), 0);
+///
+/// let mut states = [0; MAX_STATES];
+/// assert_eq!(lent::order(&session, &mut states).changes(), MAX_STATES);
+/// assert_eq!(states[..4], [1, 32, 2, 3]);
+/// assert_eq!(lent::order(&session, &mut states[1..]).rule(), 3);
+/// ```
 pub fn order(session: &[u32], states: &mut [u8]) -> Answer {
     foreign::order(session, states)
 }

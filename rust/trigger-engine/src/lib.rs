@@ -42,5 +42,6 @@ mod rule;
 mod session;
 
 pub use change::{Change, Changes};
+pub use lent::MAX_STATES;
 pub use rule::Rule;
 pub use session::{Report, Session, State};

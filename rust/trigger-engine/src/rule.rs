@@ -22,7 +22,7 @@ pub enum Rule {
     WrongMoment = 2,
     /// Session memory or change room is too short.
     ShortMemory = 3,
-    /// A load has no state, more than 16, or one given in part.
+    /// A load has no state, more than 32, or one given in part.
     States = 4,
     /// A link goes to a state above the number of states.
     Link = 5,
@@ -82,7 +82,7 @@ impl fmt::Display for Rule {
             Rule::NoFrame => "the line is no frame",
             Rule::WrongMoment => "the frame comes at the wrong moment",
             Rule::ShortMemory => "the session memory or the change room is too short",
-            Rule::States => "a trigger has 1 to 16 states, each given whole",
+            Rule::States => "a trigger has 1 to 32 states, each given whole",
             Rule::Link => "a link goes to a state above the number of states",
             Rule::Nodes => "a graph has at most 512 nodes",
             Rule::Edges => "a graph has at most 2,048 edges, each given whole",

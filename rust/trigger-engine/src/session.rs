@@ -1,7 +1,7 @@
 //! A session with its memory.
 
 use crate::change::Changes;
-use crate::lent::{self, Answer, Load};
+use crate::lent::{self, Answer, Load, MAX_STATES};
 use crate::rule::Rule;
 
 /// A state of a trigger.
@@ -11,7 +11,7 @@ pub struct State {
     pub mask: u16,
     /// What they are compared with; bits outside the mask are ignored.
     pub value: u16,
-    /// The states linked to, bit 0 for State One.
+    /// The states linked to, bit 0 for State One and bit 31 for state 32.
     pub links: u32,
     /// Whether the state is inverted: it then admits exactly the nodes that it would not admit otherwise. A mask of zero
     /// is the one exception.
@@ -58,7 +58,8 @@ impl Session {
     }
 
     /// Loads a trigger and a graph: its samples, and its edges ascending by start and then end. What the session held
-    /// before is gone, unless the load is refused. The changes are all pairs that stand.
+    /// before is gone, unless the load is refused. The changes are all pairs that stand. A trigger has up to
+    /// [`MAX_STATES`] states.
     ///
     /// ```
     /// use trigger_engine::{Rule, Session, State};
@@ -72,6 +73,12 @@ impl Session {
     /// let error = session.load(&[], &[], &[]).unwrap_err();
     /// assert_eq!(error, Rule::States);
     /// assert!(session.fires()?);
+    ///
+    /// // 32 states, each linked to the last one, and one state more.
+    /// let wide = State { links: 1 << 31, ..any };
+    /// let report = session.load(&[wide; 32], &[0x0000], &[(0, 0)])?;
+    /// assert_eq!(report.changes().len(), 32);
+    /// assert_eq!(session.load(&[wide; 33], &[0x0000], &[]).unwrap_err(), Rule::States);
     /// # Ok::<(), Rule>(())
     /// ```
     ///
@@ -181,7 +188,7 @@ impl Session {
     /// # Ok::<(), Rule>(())
     /// ```
     pub fn order(&self) -> Result<Vec<u8>, Rule> {
-        let mut states = vec![0; 16];
+        let mut states = vec![0; MAX_STATES];
         let answer = lent::order(&self.words, &mut states).accepted()?;
         states.truncate(answer.changes());
         Ok(states)
@@ -198,7 +205,7 @@ impl Session {
     }
 }
 
-/// The inverted states as a set. States past those that the set has bits for are too many, and the load is refused.
+/// The inverted states as a set. With more states than the set has bits the load is refused.
 fn inverted_set(states: &[State]) -> u32 {
     let bits = (0..u32::BITS).zip(states);
     bits.filter(|(_, state)| state.inverted).fold(0, |set, (bit, _)| set | 1 << bit)
