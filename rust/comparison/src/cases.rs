@@ -2,7 +2,7 @@
 
 use crate::random::Random;
 use reference::Book;
-use reference::rules::{ROOM, SESSION};
+use reference::rules::{ROOM, SESSION, STATES};
 use reference::standing::admitted;
 use reference::trigger::bits;
 use std::collections::BTreeSet;
@@ -127,8 +127,9 @@ impl Case {
         (case, last)
     }
 
-    /// The same links, edges and admissions with these states inverted: each state compares one bit of the sample, its
-    /// own, which the samples of a plain state have where it is admitted and those of an inverted one where it is not.
+    /// The same links, edges and admissions with these states inverted, of no more states than a sample has bits: each
+    /// state compares one bit of the sample, its own, which the samples of a plain state have where it is admitted and
+    /// those of an inverted one where it is not.
     pub fn with_inverted(&self, inverted: u32) -> Case {
         let (book, _) = Book::load(SESSION, ROOM, &self.given()).expect("the case breaks no rule");
         let admitted = admitted(&book.trigger, &book.graph);
@@ -142,11 +143,33 @@ impl Case {
         case.samples = (0..self.samples.len()).map(sample).collect();
         case
     }
+
+    /// The same ring with these states inverted, few enough for the bits of a sample that five bits leave: these have the
+    /// number of a node's state, and an inverted state admits the nodes that have a bit of its own.
+    pub fn ring_with_inverted(&self, inverted: u32) -> Case {
+        let own: Vec<usize> = bits(inverted).collect();
+        let bit = |state: usize| own.iter().position(|other| *other == state).map_or(0, |place| 1 << (place + 5));
+        let mut case = Case { starts: self.starts.clone(), ends: self.ends.clone(), inverted, ..Case::default() };
+        for (state, links) in self.links.iter().enumerate() {
+            if case.is_inverted(state) {
+                case.state(bit(state), 0, *links);
+            } else {
+                case.state(0x001F, state as u16, *links);
+            }
+        }
+        case.samples = self.samples.iter().map(|sample| sample | bit(usize::from(*sample))).collect();
+        case
+    }
+}
+
+/// The set of the first so many states, one at least.
+pub fn first_states(states: usize) -> u32 {
+    u32::MAX >> (STATES - states)
 }
 
 /// A set of inverted states: none half of the time, else any but none.
 pub fn some_inverted(random: &mut Random, states: usize) -> u32 {
-    if random.once_in(2) { 0 } else { random.between(1, (1 << states) - 1) as u32 }
+    if random.once_in(2) { 0 } else { random.between(1, first_states(states) as usize) as u32 }
 }
 
 /// A set of links: none, one, a few or many.
@@ -157,7 +180,7 @@ fn links(random: &mut Random, states: usize) -> u32 {
         1..=3 => one(random),
         4..=5 => one(random) | one(random),
         6 => one(random) | one(random) | one(random),
-        _ => random.word() as u32 & ((1 << states) - 1),
+        _ => random.word() as u32 & first_states(states),
     }
 }
 
@@ -209,12 +232,12 @@ mod tests {
     }
 
     /// Half of the cases invert, and a third of their inverted states is blank: one case in six with a single state, and
-    /// nearly every second one with sixteen.
+    /// nearly every second one with sixteen or more.
     #[test]
     fn blank_inverted_states_are_drawn_often() {
-        let counts = [1, 3, 16].map(blank_inverted);
-        assert!(counts[0] > 120 && counts[1] > 200 && counts[2] > 400, "{counts:?}");
-        assert!(counts[2] < 600, "{counts:?}: other triggers are drawn as well");
+        let counts = [1, 3, 16, STATES].map(blank_inverted);
+        assert!(counts[0] > 120 && counts[1] > 200 && counts[2] > 400 && counts[3] > 400, "{counts:?}");
+        assert!(counts[2] < 600 && counts[3] < 600, "{counts:?}: other triggers are drawn as well");
     }
 
     /// How many of 1,000 cases with so many states have an orphan; one that is linked to a reached state; two orphans that
@@ -241,10 +264,31 @@ mod tests {
     #[test]
     fn half_of_the_cases_have_orphans() {
         assert_eq!(orphans(1), [0; 4]);
-        for states in [2, 3, 5, 16] {
+        for states in [2, 3, 5, 16, 17, STATES] {
             let counts = orphans(states);
             assert!((400..600).contains(&counts[0]) && counts[1] > 200, "{states} states: {counts:?}");
             assert!(states == 2 || counts[2] > 20 && counts[3] > 200, "{states} states: {counts:?}");
+        }
+    }
+
+    /// How many of 1,000 cases with so many states have a link, an inversion and an orphan past the first sixteen.
+    fn past_the_first_half(states: usize) -> [usize; 3] {
+        let upper = |set: u32| usize::from(set >> 16 != 0);
+        let mut counts = [0; 3];
+        for Case { links, inverted, .. } in drawn(states) {
+            counts[0] += links.iter().copied().map(upper).max().unwrap_or(0);
+            counts[1] += upper(inverted);
+            counts[2] += upper(first_states(states) & !led_to(&links, 1));
+        }
+        counts
+    }
+
+    #[test]
+    fn the_upper_half_of_sets_is_drawn() {
+        assert_eq!(past_the_first_half(16), [0; 3]);
+        for states in [17, 24, STATES] {
+            let counts = past_the_first_half(states);
+            assert!(counts[0] > 500 && counts[1] > 150 && counts[2] > 150, "{states} states: {counts:?}");
         }
     }
 }

@@ -5,6 +5,7 @@
 //! those of their graph: firing is of the marks held, or left, of the states reached from State One. So it is with sessions
 //! saved while inverted states that are blank, that is of mask zero, admitted nothing.
 
+use comparison::cases::first_states;
 use comparison::random::seed;
 use comparison::subject::{accepted, answered, refused};
 use comparison::{Case, Engine, Random, Subject, Twin};
@@ -150,8 +151,8 @@ fn loaded(case: &Case) -> Vec<u32> {
 /// Another value for a word: a bit more or less, a neighbour, one too large, or anything.
 fn other(random: &mut Random, word: u32) -> u32 {
     match random.below(8) {
-        0..=2 => word ^ 1 << random.below(16),
-        3 => word ^ 1 << random.below(32),
+        0..=1 => word ^ 1 << random.below(16),
+        2..=3 => word ^ 1 << random.below(32),
         4 => word.wrapping_add(1),
         5 => word.wrapping_sub(1),
         6 => random.below(1 << 18) as u32,
@@ -160,10 +161,10 @@ fn other(random: &mut Random, word: u32) -> u32 {
 }
 
 fn sessions(random: &mut Random) -> Vec<Vec<u32>> {
-    [(3, 6, 12), (1, 0, 0), (STATES, NODES, EDGES), (5, NODES, 700), (STATES, 40, 1600), (9, 129, 130)]
-        .iter()
-        .map(|(states, nodes, edges)| loaded(&Case::random(random, *states, *nodes, *edges, 3)))
-        .collect()
+    let small = [(3, 6, 12), (1, 0, 0), (9, 129, 130), (17, 20, 60)];
+    let large = [(16, NODES, EDGES), (STATES, NODES, EDGES), (5, NODES, 700), (STATES, 40, 1600)];
+    let sizes = [small, large].concat();
+    sizes.iter().map(|(states, nodes, edges)| loaded(&Case::random(random, *states, *nodes, *edges, 3))).collect()
 }
 
 #[test]
@@ -231,6 +232,8 @@ fn edges_and_counts_damaged() {
         let nodes = random.between(2, NODES);
         let edges = random.between(2, (2 * nodes).min(EDGES - 1));
         let states = random.between(1, STATES - 1);
+        // A state that is not there: the next one half of the time, else any.
+        let past = if random.once_in(2) { states } else { random.between(states, 31) };
         let whole = loaded(&Case::random(&mut random, states, nodes, edges, 3));
         let held = whole[2] as usize;
         let place = EDGES_AT + random.below(held - 1);
@@ -250,12 +253,12 @@ fn edges_and_counts_damaged() {
         assert!(!damaged(&|session| session[0] = 0));
         assert!(!damaged(&|session| session[0] = STATES as u32 + 1));
         assert!(!damaged(&|session| session[0] = u32::MAX));
-        assert!(!damaged(&|session| session[INVERTED_AT] |= 1 << states));
-        assert!(!damaged(&|session| session[INVERTED_AT] |= 1 << 16));
-        assert!(!damaged(&|session| session[INVERTED_AT] |= 1 << 31));
-        assert!(!damaged(&|session| session[LINKS_AT] |= 1 << states));
-        assert!(!damaged(&|session| session[MARKS_AT] |= 1 << states));
-        assert!(!damaged(&|session| session[MASKS_AT + states] = 1));
+        assert!(!damaged(&|session| session[INVERTED_AT] |= 1 << past));
+        assert!(!damaged(&|session| session[LINKS_AT + states - 1] |= 1 << past));
+        assert!(!damaged(&|session| session[MARKS_AT + nodes - 1] |= 1 << past));
+        assert!(!damaged(&|session| session[MASKS_AT + past] = 1));
+        assert!(!damaged(&|session| session[VALUES_AT + past] = 1));
+        assert!(!damaged(&|session| session[LINKS_AT + past] = 1));
         assert!(!damaged(&|session| session[MASKS_AT] |= 1 << 16));
         assert!(!damaged(&|session| session[SAMPLES_AT] |= 1 << 31));
         // One state or one node more, with nothing at it, is another session in layout.
@@ -480,6 +483,96 @@ fn firing_by_marks_held<S: Subject>(subject: S) {
 fn marks_that_are_no_simulation() {
     firing_by_marks_held(Engine);
     firing_by_marks_held(Twin);
+}
+
+/// Puts a bit more into a word of a session and tells whether it is in layout, by both subjects.
+fn holds_with(session: &[u32], word: usize, bit: usize, random: &mut Random) -> bool {
+    let mut session = session.to_vec();
+    assert_eq!(session[word] >> bit & 1, 0, "word {word} has bit {bit} already");
+    session[word] |= 1 << bit;
+    let label = format!("{} states and {} nodes, word {word} has bit {bit}", session[0], session[1]);
+    let in_layout = all_calls(Engine, &session, random, &label);
+    assert_eq!(all_calls(Twin, &session, random, &label), in_layout, "{label}");
+    in_layout
+}
+
+/// States of one bit of the sample each: state s compares bit s % 16, and every third one wants it to be missing. The
+/// nodes have one bit each, in turns.
+fn of_one_bit(states: usize, nodes: usize) -> Case {
+    let mut case = Case { samples: (0..nodes).map(|node| 1 << (node % 16)).collect(), ..Case::default() };
+    for state in 0..states {
+        case.state(1 << (state % 16), 1 << (state % 16), 0);
+        case.inverted |= u32::from(state % 3 == 2) << state;
+    }
+    case
+}
+
+/// Puts the mark of each state at each node: beside all marks that there may be, and by itself, so that no other state has
+/// one. It is in layout exactly where the state admits the node.
+fn one_mark_more(case: &Case, random: &mut Random) {
+    let nodes = case.samples.len();
+    let whole = loaded(case);
+    let mut unmarked = whole.clone();
+    unmarked[MARKS_AT..][..nodes].fill(0);
+    for state in 0..case.masks.len() {
+        for node in 0..nodes {
+            let admitted = (node % 16 == state % 16) != case.is_inverted(state);
+            assert_eq!(whole[MARKS_AT + node] >> state & 1 == 1, admitted, "state {state} at node {node}");
+            assert!(admitted || !holds_with(&whole, MARKS_AT + node, state, random));
+            assert_eq!(holds_with(&unmarked, MARKS_AT + node, state, random), admitted);
+        }
+    }
+}
+
+/// Vectors have 8 half words: one node, some of a vector, whole ones, and one more.
+#[test]
+fn a_mark_where_a_state_is_not_admitted() {
+    let mut random = Random::new(seed("a_mark_where_a_state_is_not_admitted"), 0);
+    for states in [1, 15, 16, 17, 18, 31, 32] {
+        for nodes in [1, 7, 8, 17, 33] {
+            one_mark_more(&of_one_bit(states, nodes), &mut random);
+        }
+    }
+}
+
+/// Marks, links and inversions of states that are not there: with sixteen states, the whole upper half of the words.
+#[test]
+fn bits_past_the_states() {
+    let mut random = Random::new(seed("bits_past_the_states"), 0);
+    for states in [1, 15, 16, 17, 30, 31] {
+        let nodes = 18;
+        let whole = loaded(&of_one_bit(states, nodes));
+        for bit in states..32 {
+            for word in [MARKS_AT, MARKS_AT + nodes - 1, LINKS_AT, LINKS_AT + states - 1, INVERTED_AT] {
+                assert!(!holds_with(&whole, word, bit, &mut random), "{states} states, word {word}, bit {bit}");
+            }
+            // The places of the state itself.
+            for word in [MASKS_AT + bit, VALUES_AT + bit, LINKS_AT + bit] {
+                assert!(!holds_with(&whole, word, 0, &mut random), "{states} states, word {word}");
+            }
+        }
+        // A link to a state that is there is another trigger.
+        for bit in 0..states {
+            assert!(holds_with(&whole, LINKS_AT, bit, &mut random), "{states} states, link to state {}", bit + 1);
+        }
+    }
+}
+
+/// With 32 states every set is one of states that are there.
+#[test]
+fn no_bit_past_32_states() {
+    let mut random = Random::new(seed("no_bit_past_32_states"), 0);
+    let whole = loaded(&of_one_bit(STATES, 40));
+    for state in 0..STATES {
+        for word in [0, 1 << state, first_states(state + 1), u32::MAX] {
+            let mut session = whole.clone();
+            session[LINKS_AT + state] = word;
+            assert!(all_calls(Engine, &session, &mut random, &format!("links {word:#x} of state {state}")));
+        }
+    }
+    let mut session = whole.clone();
+    session[0] = STATES as u32 + 1;
+    assert!(!all_calls(Engine, &session, &mut random, "33 states"));
 }
 
 #[test]

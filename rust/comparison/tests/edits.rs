@@ -1,9 +1,11 @@
 //! Loads and long lists of edits, refused ones included, compared after each call.
 
-use comparison::cases::some_inverted;
+use comparison::cases::{first_states, some_inverted};
 use comparison::random::seed;
 use comparison::{Case, Edit, Engine, Follower, Random, Subject, Twin};
-use reference::rules::{EDGES, NODES, ROOM, STATES};
+use reference::rules::{EDGES, NODES, ROOM, SESSION, STATES};
+use std::collections::BTreeSet;
+use trigger_engine::lent::Answer;
 
 /// Random cases, each followed through at most so many edits. Gives how many edits changed a pair.
 fn follow<S: Subject>(subject: S, test: &str, cases: u64, edits: usize, case: impl Fn(&mut Random) -> Case) -> usize {
@@ -53,15 +55,29 @@ fn large(random: &mut Random) -> Case {
     Case::random(random, states, nodes, edges, kinds)
 }
 
+/// A third of the cases has sixteen states, as many as half a set has.
 fn full(random: &mut Random) -> Case {
-    let kinds = random.between(1, 12);
-    Case::random(random, STATES, NODES, EDGES, kinds)
+    let (states, kinds) = (*random.pick(&[16, STATES, STATES]), random.between(1, 12));
+    Case::random(random, states, NODES, EDGES, kinds)
+}
+
+/// Few nodes, and as many states as sets have bits at the ends of their halves.
+fn halves(random: &mut Random) -> Case {
+    let (states, nodes) = (*random.pick(&[15, 16, 17, 18, 31, STATES]), random.between(1, 9));
+    let (edges, kinds) = (random.below(nodes * nodes + 1), random.between(1, 3));
+    Case::random(random, states, nodes, edges, kinds)
 }
 
 #[test]
 fn small_and_dense() {
     let changed = follow(Engine, "small_and_dense", 20_000, 40, small);
     assert!(changed > 20_000, "only {changed} edits changed a pair");
+}
+
+#[test]
+fn states_at_the_ends_of_halves() {
+    let changed = follow(Engine, "states_at_the_ends_of_halves", 3_000, 30, halves);
+    assert!(changed > 3_000, "only {changed} edits changed a pair");
 }
 
 #[test]
@@ -92,6 +108,7 @@ fn one_long_list() {
 #[test]
 fn the_twin_of_the_benchmark() {
     follow(Twin, "the_twin_of_the_benchmark", 5_000, 40, small);
+    follow(Twin, "the_twin_of_the_benchmark", 1_000, 30, halves);
     follow(Twin, "the_twin_of_the_benchmark", 400, 60, middle);
     follow(Twin, "the_twin_of_the_benchmark", 10, 60, full);
 }
@@ -101,14 +118,19 @@ fn the_twin_of_the_benchmark() {
 #[test]
 fn rings_opened_and_closed() {
     let seed = seed("rings_opened_and_closed");
-    let sizes = [(1, 1), (1, 2), (2, 1), (2, 3), (3, 5), (5, 7), (16, 1), (16, 8), (16, 32), (1, 512), (7, 73)];
+    let half = [(1, 1), (1, 2), (2, 1), (2, 3), (3, 5), (5, 7), (16, 1), (16, 8), (16, 32), (1, 512), (7, 73)];
+    let sizes = [&half[..], &[(17, 1), (17, 30), (31, 2), (STATES, 1), (STATES, 16)]].concat();
     for (number, (states, turns)) in sizes.into_iter().enumerate() {
         for (closed, inverts) in [(false, false), (true, false), (false, true), (true, true)] {
             let mut random = Random::new(seed, number as u64);
             let (mut case, (a, b)) = Case::ring(&mut random, states, turns, closed);
-            if inverts {
+            if inverts && states <= 16 {
                 let inverted = random.between(1, (1 << states) - 1) as u32;
                 case = case.with_inverted(inverted);
+            } else if inverts {
+                // Some of the first states and some of the last, the last one with them.
+                let inverted = random.below(1 << 5) as u32 | (random.between(16, 31) as u32) << (states - 5);
+                case = case.ring_with_inverted(inverted);
             }
             let inverted = case.inverted;
             let label = format!("ring of {states} states and {turns} turns, inverted {inverted:#x}, seed {seed}");
@@ -181,25 +203,64 @@ fn every_graph(states: usize, nodes: usize) {
     }
 }
 
-/// A chain into a node whose edge to itself comes and goes: every pair changes, and the list fills the whole room. Masks
-/// of zero admit every node, inverted or not.
+/// A chain into a node whose edge to itself comes and goes: every pair changes, and with 32 states the list fills the
+/// whole room. Masks of zero admit every node, inverted or not.
 #[test]
 fn chains_that_fill_the_change_room() {
-    let nodes = NODES as u32;
-    for (against, inverted) in [(false, 0x0000), (true, 0x0000), (false, 0xFFFF), (true, 0xAAAA)] {
+    let kinds = [(false, 0), (true, 0), (false, u32::MAX), (true, 0xAAAA_AAAA)];
+    for (states, (against, inverted)) in [16, STATES].into_iter().flat_map(|states| kinds.map(|kind| (states, kind))) {
+        let nodes = NODES as u32;
         let number = |place: u32| if against { nodes - 1 - place } else { place };
-        let mut case = Case { inverted, samples: vec![0; nodes as usize], ..Case::default() };
-        for state in 0..STATES {
+        let inverted = inverted & first_states(states);
+        let mut case = Case { inverted, samples: vec![0; NODES], ..Case::default() };
+        for state in 0..states {
             case.state(0, 0xFFFF, 1 << state);
         }
         case.edges(&(1..nodes).map(|place| (number(place - 1), number(place))).collect());
         let last = number(nodes - 1);
-        let label = format!("chain against the grain: {against}, inverted {inverted:#x}");
+        let label = format!("chain of {states} states against the grain: {against}, inverted {inverted:#x}");
         let mut follower = Follower::load(Engine, &mut Random::new(1, 1), &label, &case);
+        let pairs = NODES * states;
         let report = follower.edit_in(Edit::Insert(last, last), ROOM).unwrap();
-        assert_eq!((report.fires, report.trials, report.changes.len()), (true, ROOM, ROOM), "{label}");
+        assert_eq!((report.fires, report.trials, report.changes.len()), (true, pairs, pairs), "{label}");
         let report = follower.edit_in(Edit::Delete(last, last), ROOM).unwrap();
-        assert_eq!((report.fires, report.trials, report.changes.len()), (false, ROOM, ROOM), "{label}");
+        assert_eq!((report.fires, report.trials, report.changes.len()), (false, pairs, pairs), "{label}");
         assert_eq!(follower.edit_in(Edit::Insert(last, last), ROOM - 1), Err(3), "{label}");
     }
+}
+
+/// 32 states that admit every node, each linked to the next, on a ring of 512 nodes: of 16,384 pairs all stand while it is
+/// closed, and none while it is open. Each answer as one number, with both counts at their most.
+fn all_pairs_at_once<S: Subject>(subject: S) {
+    let mut case = Case { samples: vec![0; 512], ..Case::default() };
+    for state in 0..32 {
+        case.state(0, 0, 1 << ((state + 1) % 32));
+    }
+    let row: BTreeSet<(u32, u32)> = (1..512).map(|node| (node - 1, node)).collect();
+    case.edges(&row);
+    let (silent, tried) = (Answer(0x4000 << 16), Answer(0x4000 << 40 | 0x4000 << 16));
+    let fires = Answer(tried.0 | 1 << 8);
+    let sizes = || (0..512).flat_map(|node| (1..=32).map(move |state| node * 64 + state));
+
+    let (mut session, mut room) = (vec![7; SESSION], vec![7; 16_384]);
+    assert_eq!(subject.load(&mut session, &case, &mut room), silent);
+    assert_eq!(subject.insert(&mut session, 511, 0, &mut room[..16_383]), Answer(3));
+    assert_eq!(subject.insert(&mut session, 511, 0, &mut room), fires);
+    assert!(room.iter().copied().eq(sizes()));
+    assert_eq!(subject.delete(&mut session, 511, 0, &mut room[1..]), Answer(3));
+    assert_eq!(subject.delete(&mut session, 511, 0, &mut room), tried);
+    assert!(room.iter().copied().eq(sizes().map(|size| -size)));
+
+    // Loaded closed, with every pair in its list.
+    case.edges(&row.into_iter().chain([(511, 0)]).collect());
+    assert_eq!(subject.load(&mut session, &case, &mut room[1..]), Answer(3));
+    assert_eq!(subject.load(&mut session, &case, &mut room), fires);
+    assert!(room.iter().copied().eq(sizes()));
+    assert_eq!((fires.trials(), fires.changes(), fires.yes()), (16_384, 16_384, true));
+}
+
+#[test]
+fn all_pairs_of_a_ring_at_once() {
+    all_pairs_at_once(Engine);
+    all_pairs_at_once(Twin);
 }

@@ -4,6 +4,7 @@ use comparison::Random;
 use comparison::program::{Program, path};
 use comparison::random::seed;
 use reference::frames::output;
+use reference::rules::STATES;
 use std::collections::BTreeMap;
 
 /// How often each kind of output line came, refusals with their number.
@@ -11,10 +12,12 @@ type Kinds = BTreeMap<String, usize>;
 
 /// A line that is no frame, or not the one it was made from.
 fn damaged(random: &mut Random) -> Vec<u8> {
-    let frames = ["01FFFF00010002", "07FFFF00010002", "020001", "03", "0400000001", "0500010000", "06"];
-    let mut line = random.pick(&frames).as_bytes().to_vec();
+    let states = ["01FFFF00010002", "07FFFF00010002", "0A00FFFF000100000002", "0A01FFFF000100010000"];
+    let others = ["020001", "03", "0400000001", "0500010000", "06"];
+    let frames = if random.once_in(2) { &states[..] } else { &others };
+    let mut line = random.pick(frames).as_bytes().to_vec();
     let place = random.below(line.len());
-    match random.below(12) {
+    match random.below(14) {
         0 => line.clear(),
         1 => line.truncate(place),
         2 => line.push(b'0'),
@@ -26,13 +29,28 @@ fn damaged(random: &mut Random) -> Vec<u8> {
         8 => line[0] = *random.pick(b"18F/:"),
         9 => line = format!("0{}{:04x}", random.between(1, 7), random.below(65_536)).into_bytes(),
         10 => line = vec![*random.pick(b"0A"); random.between(15, 5_000)],
+        // A wide state with any inversion byte, mostly one that says nothing; or longer than a frame is.
+        11 => line = format!("0A{:02X}FFFF000100000000", random.below(256)).into_bytes(),
+        12 => line = format!("0A00FFFF0001{}", "0".repeat(random.below(40))).into_bytes(),
         _ => line = (0..random.below(20)).map(|_| random.word() as u8).filter(|byte| *byte != b'\n').collect(),
     }
     line
 }
 
+/// By which frames states are given.
+#[derive(Clone, Copy)]
+enum States {
+    /// By `01` and `07` alone: no link goes past the sixteenth state.
+    Older,
+    /// The same states by `0A` alone.
+    OlderByWide,
+    /// By all three, with links to every state.
+    Mixed,
+}
+
 /// How a session is drawn.
 struct Sizes {
+    frames: States,
     states: usize,
     nodes: usize,
     edits: usize,
@@ -40,25 +58,43 @@ struct Sizes {
     damages: usize,
 }
 
+/// The frame of a state: wide where it must be, and else by what is drawn from.
+fn state(random: &mut Random, frames: States, mask: u16, value: usize, links: u32, inverted: bool) -> Vec<u8> {
+    let wide = match frames {
+        States::Older => false,
+        States::OlderByWide => true,
+        States::Mixed => links > 0xFFFF || random.once_in(2),
+    };
+    let line = match (wide, inverted) {
+        (true, _) => format!("0A{:02X}{mask:04X}{value:04X}{links:08X}", u8::from(inverted)),
+        (false, true) => format!("07{mask:04X}{value:04X}{links:04X}"),
+        (false, false) => format!("01{mask:04X}{value:04X}{links:04X}"),
+    };
+    line.into_bytes()
+}
+
+/// A set of links to one or two of so many states, or to none.
+fn links(random: &mut Random, states: usize) -> u32 {
+    let bit = |random: &mut Random| 1 << random.below(states);
+    match random.below(4) {
+        0 => 0,
+        1 | 2 => bit(random),
+        _ => bit(random) | bit(random),
+    }
+}
+
 fn session(random: &mut Random, sizes: &Sizes) -> Vec<u8> {
     let mut lines: Vec<Vec<u8>> = Vec::new();
-    let links = |random: &mut Random, states: usize| -> usize {
-        let bit = |random: &mut Random| 1 << random.below(states);
-        match random.below(4) {
-            0 => 0,
-            1 | 2 => bit(random),
-            _ => bit(random) | bit(random),
-        }
-    };
+    let furthest = if let States::Mixed = sizes.frames { STATES } else { 16 };
     // Half of the sessions have inverted states; a quarter of all states has mask zero.
     let inverts = random.once_in(2);
-    let kind = |random: &mut Random| if inverts && random.once_in(2) { "07" } else { "01" };
     for _ in 0..sizes.states {
         let mask = *random.pick(&[0xFFFF, 0xFFFF, 0x0001, 0x0000]);
         // Now and then a link goes to a state that comes later, or never.
-        let within = if random.once_in(30) { 16 } else { sizes.states.min(16) };
+        let within = if random.once_in(30) { furthest } else { sizes.states.min(furthest) };
         let (value, links) = (random.below(sizes.kinds), links(random, within));
-        lines.push(format!("{}{mask:04X}{value:04X}{links:04X}", kind(random)).into_bytes());
+        let inverted = inverts && random.once_in(2);
+        lines.push(state(random, sizes.frames, mask, value, links, inverted));
     }
     for _ in 0..sizes.nodes {
         lines.push(format!("02{:04X}", random.below(sizes.kinds)).into_bytes());
@@ -73,8 +109,9 @@ fn session(random: &mut Random, sizes: &Sizes) -> Vec<u8> {
     lines.push(b"03".to_vec());
     if random.once_in(4) {
         // A refused run may be mended by more states.
-        for _ in 0..random.below(16) {
-            lines.push(format!("{}FFFF00010000", kind(random)).into_bytes());
+        for _ in 0..random.below(STATES) {
+            let inverted = inverts && random.once_in(2);
+            lines.push(state(random, sizes.frames, 0xFFFF, 1, 0, inverted));
         }
         lines.push(b"03".to_vec());
     }
@@ -83,7 +120,7 @@ fn session(random: &mut Random, sizes: &Sizes) -> Vec<u8> {
         let nodes = sizes.nodes.max(1);
         let line = match random.below(20) {
             0 => "06".to_string(),
-            1 => random.pick(&["03", "020001", "01FFFF00010002", "07FFFF00010002"]).to_string(),
+            1 => random.pick(&["03", "020001", "01FFFF00010002", "07FFFF00010002", "0A00FFFF000100000002"]).to_string(),
             2 => format!("04{:04X}{:04X}", random.below(nodes + 2), random.below(65_536)),
             3 => format!("05{:04X}{:04X}", random.below(nodes), random.below(nodes)),
             4..=8 if !held.is_empty() => {
@@ -160,6 +197,7 @@ fn compare(test: &str, sessions: u64, kinds: &[&str], sizes: impl Fn(&mut Random
 fn small_sessions() {
     let kinds = ["80", "81", "82", "8F01", "8F02", "8F04", "8F05", "8F0B", "8F0C", "8F0E"];
     compare("small_sessions", 600, &kinds, |random| Sizes {
+        frames: States::Mixed,
         states: random.below(5),
         nodes: random.below(6),
         edits: random.below(60),
@@ -169,10 +207,24 @@ fn small_sessions() {
 }
 
 #[test]
+fn sessions_of_many_states() {
+    let kinds = ["80", "81", "82", "8F01", "8F02", "8F04", "8F05", "8F0B", "8F0C", "8F0E"];
+    compare("sessions_of_many_states", 200, &kinds, |random| Sizes {
+        frames: States::Mixed,
+        states: random.between(14, 34),
+        nodes: random.between(1, 20),
+        edits: random.below(60),
+        kinds: random.between(1, 4),
+        damages: random.between(2, 20),
+    });
+}
+
+#[test]
 fn sessions_at_the_limits() {
     let kinds = ["80", "81", "82", "8F01", "8F02", "8F04", "8F06", "8F0B", "8F0E"];
     compare("sessions_at_the_limits", 12, &kinds, |random| Sizes {
-        states: random.between(14, 18),
+        frames: States::Mixed,
+        states: random.between(28, 34),
         nodes: random.between(500, 516),
         edits: random.below(200),
         kinds: random.between(4, 20),
@@ -180,32 +232,66 @@ fn sessions_at_the_limits() {
     });
 }
 
-/// Sixteen states of both kinds. One more of either kind meets 4 at its line; after the run both meet 2; a state frame of
-/// the wrong length meets 1 at any moment.
+/// The same session with its states by the older frames and by `0A`: the same bytes.
 #[test]
-fn states_of_both_kinds() {
+fn the_same_trigger_by_both_frames() {
     let Some(program) = path() else { return };
-    let mut random = Random::new(seed("states_of_both_kinds"), 0);
-    for inverted in [0x0000, 0xFFFF, 0x5555, 0xFFFE, 0x7FFF, 0x8001] {
-        let kind = |state: usize| if inverted >> state & 1 == 1 { "07" } else { "01" };
-        let mut input: String = (0..16).map(|state| format!("{}FFFF{state:04X}0000\n", kind(state))).collect();
-        input += "07FFFF00000000\n01FFFF00000000\n07FFFF0000000\n07FFFF000000000\n0200FF\n020003\n03\n";
-        input += "07FFFF00000000\n01FFFF00000000\n07FFFF0000\n06\n";
+    let seed = seed("the_same_trigger_by_both_frames");
+    let (mut fired, mut states) = (0, 0);
+    for number in 0..200 {
+        let drawn = |frames: States| {
+            let mut random = Random::new(seed, number);
+            // No damaged lines: these may be states too, of the same frame in both.
+            let (states, nodes, edits) = (random.between(1, 16), random.between(1, 8), random.below(40));
+            let sizes = Sizes { frames, states, nodes, edits, kinds: random.between(1, 3), damages: usize::MAX };
+            session(&mut random, &sizes)
+        };
+        let (older, wide) = (drawn(States::Older), drawn(States::OlderByWide));
+        states += (wide.len() - older.len()) / 6;
+        let wanted = output(&older);
+        fired += usize::from(wanted.windows(4).any(|bytes| bytes == b"8001"));
+        let mut random = Random::new(seed, number);
+        assert!(run(&program, &mut random, &older) == wanted, "seed {seed}, session {number}: older frames");
+        assert!(run(&program, &mut random, &wide) == wanted, "seed {seed}, session {number}: by 0A");
+    }
+    assert!(fired > 40 && states > 1_000, "{fired} sessions fired, {states} states were given by both");
+}
+
+/// 32 states of every kind. One more of any kind meets 4 at its line; after the run all meet 2; a state frame of the wrong
+/// length, or with another inversion byte, meets 1 at any moment.
+#[test]
+fn states_of_every_kind() {
+    let Some(program) = path() else { return };
+    let mut random = Random::new(seed("states_of_every_kind"), 0);
+    let one_more = "07FFFF00000000\n01FFFF00000000\n0A00FFFF000000000000\n0A01FFFF000000000000\n";
+    let no_frames = "07FFFF0000000\n07FFFF000000000\n0A02FFFF000000000000\n0AFFFFFF000000000000\n0A00FFFF00000000\n";
+    for inverted in [0x0000_0000, 0xFFFF_FFFF, 0x5555_5555, 0xFFFF_FFFE, 0x7FFF_FFFF, 0x8001_8001, 0x0001_0000] {
+        let is_inverted = |state: usize| inverted >> state & 1 == 1;
+        let line =
+            |random: &mut Random, number: usize| state(random, States::Mixed, 0xFFFF, number, 0, is_inverted(number));
+        let states: Vec<Vec<u8>> = (0..STATES).map(|number| line(&mut random, number)).collect();
+        let rest = format!("{one_more}{no_frames}0200FF\n020003\n03\n{one_more}{no_frames}06\n");
+        let input = [states.join(&b'\n'), b"\n".to_vec(), rest.into_bytes()].concat();
         // No state is 00FF, so all inverted ones are at node 0; state 4 is 0003. State One, 0000, stands where it is
         // inverted; the others are orphans.
-        let at_node = |node: usize, set: usize| -> String {
-            (0..16)
-                .filter(|state| set >> state & 1 == 1)
-                .map(|state| format!("81{:08X}\n", node * 64 + state + 1))
-                .collect()
+        let at_node = |node: usize, set: u32| -> String {
+            let standing = (0..STATES).filter(|state| set >> state & 1 == 1);
+            standing.map(|state| format!("81{:08X}\n", node * 64 + state + 1)).collect()
         };
         let lists = at_node(0, inverted) + &at_node(1, inverted ^ 0x0008);
-        let (count, fires) = (lists.lines().count(), inverted & 1);
-        let wanted = format!("8F04\n8F04\n8F01\n8F01\n80{fires:02X}{count:04X}{count:04X}\n{lists}8F02\n8F02\n8F01\n")
-            + "820102030405060708090A0B0C0D0E0F10\n";
-        assert_eq!(output(input.as_bytes()), wanted.as_bytes(), "inverted {inverted:04X}");
-        assert!(run(&program, &mut random, input.as_bytes()) == wanted.as_bytes(), "inverted {inverted:04X}");
+        let (count, fires, order) = (lists.lines().count(), inverted & 1, order_of(STATES));
+        let (full, late, not) = ("8F04\n".repeat(4), "8F02\n".repeat(4), "8F01\n".repeat(5));
+        let run_answer = format!("80{fires:02X}{count:04X}{count:04X}\n{lists}");
+        let wanted = format!("{full}{not}{run_answer}{late}{not}{order}");
+        assert_eq!(String::from_utf8(output(&input)).unwrap(), wanted, "inverted {inverted:08X}");
+        assert!(run(&program, &mut random, &input) == wanted.as_bytes(), "inverted {inverted:08X}");
     }
+}
+
+/// The walk order of so many states without links.
+fn order_of(states: usize) -> String {
+    let numbers: String = (1..=states).map(|state| format!("{state:02X}")).collect();
+    format!("82{numbers}\n")
 }
 
 /// More insertions than there are places for edges.

@@ -16,7 +16,8 @@ fn damage(random: &mut Random, case: &mut Case, rule: u8) {
             2 => drop(case.masks.pop()),
             3 => case.values.push(random.word() as u16),
             4 => case.links.push(0),
-            5 => case.inverted |= 1 << random.between(states, 31),
+            // With 32 states there is none to invert that is not there.
+            5 if states < STATES => case.inverted |= 1 << random.between(states, 31),
             _ => drop(case.links.pop()),
         },
         5 => {
@@ -118,7 +119,8 @@ fn inverted_states_that_are_not_there() {
         (0..states).for_each(|_| case.state(0xFFFF, 0, 0));
         for bit in 0..32 {
             case.inverted = 1 << bit;
-            for links in [0, 1 << states] {
+            // With 32 states no link goes too far: its bit is shifted out.
+            for links in [0, 1u32.checked_shl(states as u32).unwrap_or(0)] {
                 case.links[states - 1] = links;
                 let (mut session, mut room) = (vec![9; SESSION], vec![9; ROOM]);
                 let answer = Engine.load(&mut session, &case, &mut room);

@@ -186,27 +186,96 @@ fn every_state_reached() {
     assert_eq!(told(session.insert(1, 2)), Ok((true, 2, vec![begins(1, 0), begins(2, 1)])));
 }
 
+/// State One is linked to the last state alone, and the states between them are orphans that stand nowhere: the last one
+/// decides whether State One stands, and whether the trigger fires.
+#[test]
+fn a_link_to_the_last_state() {
+    for last in [2, 16, 17, 31, 32] {
+        let mut session = Session::new();
+        let mut states = vec![state(0xFFFF, 9, 0); last];
+        states[0] = state(0xFFFF, 1, 1 << (last - 1));
+        states[last - 1] = state(0xFFFF, 2, 0);
+        let number = last as u8;
+        assert_eq!(told(session.load(&states, &[1, 2], &[])), Ok((false, 2, vec![begins(number, 1)])));
+        assert_eq!(told(session.insert(0, 1)), Ok((true, 1, vec![begins(1, 0)])));
+        assert_eq!(told(session.delete(0, 1)), Ok((false, 1, vec![ceases(1, 0)])));
+        assert_eq!(session.matches(number.into(), 1), Ok(true));
+        assert_eq!(session.matches(u32::from(number) + 1, 1), Err(Rule::Name));
+        // It is not admitted anywhere: no edge carries the link.
+        assert_eq!(told(session.load(&states, &[1, 1], &[(0, 1), (1, 0)])), Ok((false, 2, vec![])));
+        // It is linked to itself, and stands only where the edge from its node to itself does.
+        states[last - 1].links = 1 << (last - 1);
+        assert_eq!(told(session.load(&states, &[1, 2], &[(0, 1)])), Ok((false, 2, vec![])));
+        assert_eq!(told(session.insert(1, 1)), Ok((true, 2, vec![begins(1, 0), begins(number, 1)])));
+        assert_eq!(told(session.delete(1, 1)), Ok((false, 2, vec![ceases(1, 0), ceases(number, 1)])));
+        assert_eq!(session.order().map(|order| order[..2].to_vec()), Ok(vec![1, number]));
+    }
+}
+
+/// The last state inverted, and blank and inverted.
+#[test]
+fn the_last_state_inverted() {
+    for last in [16, 17, 32] {
+        let mut session = Session::new();
+        let mut states = vec![state(0xFFFF, 9, 0); last];
+        states[last - 1] = inverted(0xFFFF, 5, 0);
+        let number = last as u8;
+        assert_eq!(told(session.load(&states, &[5, 6], &[])), Ok((false, 1, vec![begins(number, 1)])));
+        assert_eq!(session.words()[INVERTED_AT], 1 << (last - 1));
+        assert_eq!(session.words()[MARKS_AT..][..2], [0, 1 << (last - 1)]);
+        states[last - 1] = inverted(0, 5, 0);
+        let both = vec![begins(number, 0), begins(number, 1)];
+        assert_eq!(told(session.load(&states, &[5, 6], &[])), Ok((false, 2, both)));
+    }
+}
+
+/// Each state has a word of its own and is linked to the next one, the last to State One; the nodes have these words in
+/// turn, and an edge to the next. Nothing stands before the edge out of the last state's node closes the ring.
+#[test]
+fn a_ring_through_the_last_state() {
+    for states in [16, 17, 32] {
+        let mut session = Session::new();
+        let ring: Vec<State> = (0..states).map(|s| state(0xFFFF, s as u16, 1 << ((s + 1) % states))).collect();
+        let samples: Vec<u16> = (0..states as u16).collect();
+        let last = states as u32 - 1;
+        let mut edges: Vec<(u32, u32)> = (0..last).map(|node| (node, node + 1)).collect();
+        // A shorter ring, past the node of the last state.
+        edges.insert(edges.len() - 1, (last - 1, 0));
+        assert_eq!(told(session.load(&ring, &samples, &edges)), Ok((false, last + 1, vec![])));
+        let all = |begins: bool| (0..states).map(|s| Change { state: s as u8 + 1, node: s as u16, begins }).collect();
+        assert_eq!(told(session.insert(last, 0)), Ok((true, last + 1, all(true))));
+        assert_eq!(told(session.delete(last - 1, 0)), Ok((true, 0, vec![])));
+        assert_eq!(told(session.delete(last - 1, last)), Ok((false, last + 1, all(false))));
+        let order: Vec<u8> = (1..=states as u8).collect();
+        assert_eq!(session.order(), Ok(order));
+    }
+}
+
 #[test]
 fn limits() {
     let mut session = Session::new();
     let states = |count: usize| vec![state(0, 0, 0); count];
-    assert!(session.load(&states(16), &[], &[]).is_ok());
-    assert_eq!(told(session.load(&states(17), &[], &[])), Err(Rule::States));
+    assert!(session.load(&states(32), &[], &[]).is_ok());
+    assert_eq!(told(session.load(&states(33), &[], &[])), Err(Rule::States));
     assert_eq!(told(session.load(&[], &[], &[])), Err(Rule::States));
-    // More states than the set of inverted ones has bits for, and all of them inverted.
+    // Up to as many states as the set of inverted ones has bits for, and more, all of them inverted.
     for count in [16, 17, 32, 33, 70] {
         let answer = told(session.load(&vec![inverted(0xFFFF, 0, 0); count], &[], &[]));
-        assert_eq!(answer, if count == 16 { Ok((false, 0, vec![])) } else { Err(Rule::States) });
+        assert_eq!(answer, if count <= 32 { Ok((false, 0, vec![])) } else { Err(Rule::States) });
     }
     assert!(session.load(&states(1), &[0; 512], &[]).is_ok());
     assert_eq!(told(session.load(&states(1), &[0; 513], &[])), Err(Rule::Nodes));
-    for count in 1..=16 {
+    for count in 1..=32 {
         let mut linked = states(count);
         linked[0].links = 1 << (count - 1);
         assert!(session.load(&linked, &[], &[]).is_ok());
-        linked[0].links = 1 << count;
-        assert_eq!(told(session.load(&linked, &[], &[])), Err(Rule::Link));
+        for bit in count..32 {
+            linked[0].links = 1 << bit;
+            assert_eq!(told(session.load(&linked, &[], &[])), Err(Rule::Link));
+        }
     }
+    // With 32 states there is no link that goes too far.
+    assert!(session.load(&vec![state(0, 0, u32::MAX); 32], &[], &[]).is_ok());
     assert!(session.load(&states(1), &[0; 512], &[(511, 511)]).is_ok());
     for edge in [(512, 0), (0, 512)] {
         assert_eq!(told(session.load(&states(1), &[0; 512], &[edge])), Err(Rule::EdgeNode));
