@@ -50,7 +50,7 @@ fn main() {
     };
     let program = if printing::NAME.contains(&options.only) { program::path() } else { None };
     println!(
-        "{:<24} {:>5} {:>7} {:>7} {:>10} {:>10} {:>12} {:>11} {:>12}",
+        "{:<34} {:>5} {:>7} {:>7} {:>10} {:>10} {:>12} {:>11} {:>12}",
         "workload", "nodes", "trials", "changes", "engine ns", "twin ns", "plain ns", "engine/twin", "plain/engine"
     );
     for nodes in options.sizes {
@@ -132,7 +132,7 @@ fn row(workload: &Workload, rounds: usize) {
     }
     let (engine, twin, plain) = (engine_times.of_a_call(), twin_times.of_a_call(), plain_times.of_a_call());
     println!(
-        "{:<24} {:>5} {trials:>7.1} {changes:>7.1} {engine:>10.0} {twin:>10.0} {plain:>12.0} {:>11.2} {:>12.1}",
+        "{:<34} {:>5} {trials:>7.1} {changes:>7.1} {engine:>10.0} {twin:>10.0} {plain:>12.0} {:>11.2} {:>12.1}",
         workload.name,
         workload.nodes,
         engine / twin,

@@ -2,7 +2,7 @@
 
 use crate::workloads::{Call, chain};
 use comparison::{Case, Edit};
-use reference::rules::{NODES, ROOM};
+use reference::rules::NODES;
 use std::io::{Read, Write};
 use std::path::PathBuf;
 use std::process::{Child, Command, Stdio};
@@ -130,7 +130,8 @@ pub fn rows(program: PathBuf, before: Option<PathBuf>, rounds: usize) {
     let (loading, edits) = (loading(&case), edits.collect::<String>().repeat(REPEATS));
     let edited = loading.clone() + &edits;
     let lines = lines_of(&mut printers, &edited) - lines_of(&mut printers, &loading);
-    assert_eq!(lines, REPEATS * calls.len() * (1 + ROOM), "an edit does not change every pair");
+    let pairs = NODES * case.masks.len();
+    assert_eq!(lines, REPEATS * calls.len() * (1 + pairs), "an edit does not change every pair");
     let count = printers.len();
     for round in 0..rounds {
         // Each goes first in its turn.

@@ -28,7 +28,10 @@ pub struct Workload {
 
 /// The number of calls in a list.
 const CALLS: usize = 64;
+/// The states of a trigger, in rows that say no other number.
 const STATES: usize = 16;
+/// As many as a trigger may have.
+const MOST: usize = 32;
 /// With so many kinds of samples hardly any pair of a random capture stands, and edits mostly change nothing.
 const QUIET: usize = 16;
 /// With so many some stand and some do not, and edits change some.
@@ -36,26 +39,31 @@ const MIXED: usize = 3;
 /// With one kind nearly all stand, and edits mostly change nothing.
 const ALIKE: usize = 1;
 
-/// The workloads with so many nodes, at least 16.
+/// The workloads with so many nodes, at least 32. New ones come last, so that the others are drawn as they were.
 pub fn workloads(nodes: usize) -> Vec<Workload> {
     let random = &mut Random::new(nodes as u64, 7);
     let workload = |name, (case, calls)| Workload { name, nodes, case, calls };
-    let quiet = capture(random, nodes, QUIET);
-    let mixed = capture(random, nodes, MIXED);
+    let quiet = capture(random, STATES, nodes, QUIET);
+    let mixed = capture(random, STATES, nodes, MIXED);
     let half = half_inverted(&mixed);
     vec![
         workload("capture, quiet edits", quiet),
         workload("capture, mixed edits", mixed),
         workload("capture, half inverted", half),
         workload("capture, window slides", window(random, nodes)),
-        workload("ring opened and closed", ring(random, nodes)),
+        workload("ring opened and closed", ring(random, STATES, nodes)),
         workload("chain with the grain", chain(nodes, |place| place)),
         workload("chain against the grain", chain(nodes, |place| nodes - 1 - place)),
         workload("node with many edges", fan(random, nodes)),
-        workload("capture, load", (loaded(random, nodes, MIXED), vec![Call::Load; 8])),
-        workload("capture, question", (loaded(random, nodes, MIXED), vec![Call::Fires; CALLS])),
-        workload("orphans, quiet", with_orphans(capture(random, nodes, ALIKE))),
-        workload("orphans, question", with_orphans((loaded(random, nodes, ALIKE), vec![Call::Fires; CALLS]))),
+        workload("capture, load", loads(random, STATES, nodes)),
+        workload("capture, question", questions(random, STATES, nodes, MIXED)),
+        workload("orphans, quiet", with_orphans(capture(random, STATES, nodes, ALIKE))),
+        workload("orphans, question", with_orphans(questions(random, STATES, nodes, ALIKE))),
+        workload("32 states, quiet edits", capture(random, MOST, nodes, QUIET)),
+        workload("32 states, mixed edits", capture(random, MOST, nodes, MIXED)),
+        workload("32 states, ring opened and closed", ring(random, MOST, nodes)),
+        workload("32 states, load", loads(random, MOST, nodes)),
+        workload("32 states, question", questions(random, MOST, nodes, MIXED)),
     ]
 }
 
@@ -68,10 +76,10 @@ fn delete((start, end): (u32, u32)) -> Call {
 }
 
 /// A ring of states on a random capture with four edges a node and so many kinds of samples.
-fn loaded(random: &mut Random, nodes: usize, kinds: usize) -> Case {
+fn loaded(random: &mut Random, states: usize, nodes: usize, kinds: usize) -> Case {
     let mut case = Case::default();
-    for state in 0..STATES {
-        case.state(0xFFFF, (state % kinds) as u16, 1 << ((state + 1) % STATES));
+    for state in 0..states {
+        case.state(0xFFFF, (state % kinds) as u16, 1 << ((state + 1) % states));
     }
     case.samples = (0..nodes).map(|_| random.below(kinds) as u16).collect();
     let mut held = BTreeSet::new();
@@ -96,9 +104,19 @@ fn absent(random: &mut Random, nodes: usize, held: &BTreeSet<(u32, u32)>) -> (u3
     }
 }
 
+/// A capture loaded over and over.
+fn loads(random: &mut Random, states: usize, nodes: usize) -> (Case, Vec<Call>) {
+    (loaded(random, states, nodes, MIXED), vec![Call::Load; 8])
+}
+
+/// A capture asked whether the trigger fires.
+fn questions(random: &mut Random, states: usize, nodes: usize, kinds: usize) -> (Case, Vec<Call>) {
+    (loaded(random, states, nodes, kinds), vec![Call::Fires; CALLS])
+}
+
 /// An edge goes and another comes, over and over.
-fn capture(random: &mut Random, nodes: usize, kinds: usize) -> (Case, Vec<Call>) {
-    let case = loaded(random, nodes, kinds);
+fn capture(random: &mut Random, states: usize, nodes: usize, kinds: usize) -> (Case, Vec<Call>) {
+    let case = loaded(random, states, nodes, kinds);
     let mut held: BTreeSet<(u32, u32)> = edges_of(&case).into_iter().collect();
     let mut calls = Vec::new();
     while calls.len() < CALLS {
@@ -128,7 +146,7 @@ fn with_orphans((mut case, calls): (Case, Vec<Call>)) -> (Case, Vec<Call>) {
 
 /// The edges of a capture in the order of their arrival: the newest comes in, the oldest goes out.
 fn window(random: &mut Random, nodes: usize) -> (Case, Vec<Call>) {
-    let mut case = loaded(random, nodes, MIXED);
+    let mut case = loaded(random, STATES, nodes, MIXED);
     let size = 4 * nodes - 1;
     let mut held = BTreeSet::new();
     let mut arrivals = Vec::new();
@@ -143,8 +161,8 @@ fn window(random: &mut Random, nodes: usize) -> (Case, Vec<Call>) {
 }
 
 /// A ring of states on a ring of nodes: one edge opens and closes it.
-fn ring(random: &mut Random, nodes: usize) -> (Case, Vec<Call>) {
-    let (case, last) = Case::ring(random, STATES, nodes / STATES, true);
+fn ring(random: &mut Random, states: usize, nodes: usize) -> (Case, Vec<Call>) {
+    let (case, last) = Case::ring(random, states, nodes / states, true);
     (case, [delete(last), insert(last)].repeat(CALLS / 2))
 }
 
