@@ -1,6 +1,6 @@
 /* Trigger states standing at nodes of a capture graph: the engine, for C and C++.
 
-   A trigger has 1 to 16 states, numbered from 1. A state has a mask, a value and a set of links to states (bit i for state i + 1), and is plain or
+   A trigger has 1 to 32 states, numbered from 1. A state has a mask, a value and a set of links to states (bit i for state i + 1), and is plain or
    inverted. A graph has up to 512 nodes, numbered from 0, each with a sample of 16 bits, and up to 2,048 edges. A plain state admits a node when value
    and sample agree in every bit of the mask; an inverted state admits exactly the nodes that its plain form does not, with one exception: a mask of zero
    admits every node, inverted or not. The pairs (state, node) that stand are those of the greatest simulation: the state admits the node, and each link of
@@ -28,15 +28,15 @@ extern "C" {
 
 /* Limits. */
 enum {
-    TRIGGER_MAX_STATES = 16,
+    TRIGGER_MAX_STATES = 32,
     TRIGGER_MAX_NODES = 512,
     TRIGGER_MAX_EDGES = 2048,
     /* the words of a session: what trigger_session_words() answers */
-    TRIGGER_SESSION_WORDS = 3124,
+    TRIGGER_SESSION_WORDS = 3172,
     /* the places that the changes of one call may need: what trigger_change_places() answers */
-    TRIGGER_CHANGE_PLACES = 8192,
+    TRIGGER_CHANGE_PLACES = 16384,
     /* the places that trigger_order writes */
-    TRIGGER_ORDER_PLACES = 16
+    TRIGGER_ORDER_PLACES = 32
 };
 
 /* The stack of each call, in bytes, on x86-64, of the archive as the toolchain compiles it: what to reserve. Counted from the caller's call on: the
@@ -47,7 +47,7 @@ enum {
    they have to be measured again. What an interrupt puts on the same stack is not in them.
    No function of the engine calls itself, directly or through others, but one: the visit of the depth-first walk, which only trigger_order uses. A visit
    begins only at a state not yet visited, and the number of states not yet visited falls with each visit in a visit, by its proof
-   (crates/walk_order/proofs): at most 16 are under way at once, the first one counted. */
+   (crates/walk_order/proofs): at most 32 are under way at once, the first one counted. */
 enum {
     TRIGGER_STACK_SESSION_WORDS = 8,
     TRIGGER_STACK_CHANGE_PLACES = 8,
@@ -70,10 +70,10 @@ enum {
 enum {
     /* no rule is broken */
     TRIGGER_ACCEPTED = 0,
-    /* the session has fewer than 3,124 words, or the changes have fewer than 8,192 places, or the states of trigger_order fewer than 16 */
+    /* the session has fewer than 3,172 words, or the changes have fewer than 16,384 places, or the states of trigger_order fewer than 32 */
     TRIGGER_MEMORY_SHORT = 3,
-    /* a load has no state, more than 16, or one given in part: masks, values and links of different lengths, or an inverted state that has none of them
-       (a bit of the set at or above the number of states) */
+    /* a load has no state, more than 32, or one given in part: masks, values and links of different lengths, or an inverted state that has none of them
+       (a bit of the set at or above the number of states; with 32 states there is none) */
     TRIGGER_STATES_WRONG = 4,
     /* a link goes to a state above the number of states */
     TRIGGER_LINK_WRONG = 5,
@@ -158,17 +158,17 @@ static inline uint32_t trigger_change_node(int32_t change)
     return trigger_change_size(change) / 64u;
 }
 
-/* How many words a session has: 3,124. Memory past them is never read or written. */
+/* How many words a session has: 3,172. Memory past them is never read or written. */
 size_t trigger_session_words(void);
 
-/* How many places the changes of one call may need: 8,192. */
+/* How many places the changes of one call may need: 16,384. */
 size_t trigger_change_places(void);
 
 /* Loads a trigger and a graph, a list for each field: the masks, values and links of the states, the samples of the nodes, the starts and ends of the
    edges; and the set of the inverted states, bit i for state i + 1, 0 where all are plain. The session holds the set as it is given, states of mask zero
    included. Rules 3 to 9.
    Accepted: the session holds exactly this trigger and graph, and marks at exactly the pairs that stand, whatever it held before; its unused places
-   are zero and words past its 3,124 are as before. The changes are all standing pairs, ascending by size, at the front, and the places after them are
+   are zero and words past its 3,172 are as before. The changes are all standing pairs, ascending by size, at the front, and the places after them are
    as before. The answer tells whether the trigger fires, the number of admitted pairs as the trial count, and the number of changes. */
 trigger_answer trigger_load(
     uint32_t *session, size_t session_length,
@@ -182,7 +182,7 @@ trigger_answer trigger_load(
     int32_t *changes, size_t changes_length);
 
 /* Inserts the edge from start to end. Rules 3, 10, 11, 12, 13.
-   Accepted: the session holds the edge too; trigger, samples and all other edges stay, and words past its 3,124 are as before. Where its marks were at
+   Accepted: the session holds the edge too; trigger, samples and all other edges stay, and words past its 3,172 are as before. Where its marks were at
    exactly the pairs that stood, they are at exactly the pairs that stand now; the changes are the pairs that began to stand, ascending by size, at the
    front, and the places after them are as before; the answer tells whether the trigger fires, the number of pairs tried (the least set that the insertion
    can reach) and the number of changes. An accepted load leaves such marks, whatever it met; an accepted edit leaves them where it met them.
@@ -194,7 +194,7 @@ trigger_answer trigger_insert(
     int32_t *changes, size_t changes_length);
 
 /* Deletes the edge from start to end. Rules 3, 10, 11, 14.
-   Accepted: the session does not hold the edge; trigger, samples and all other edges stay, and words past its 3,124 are as before. Where its marks were at
+   Accepted: the session does not hold the edge; trigger, samples and all other edges stay, and words past its 3,172 are as before. Where its marks were at
    exactly the pairs that stood, they are at exactly the pairs that stand now; the changes are the pairs that ceased to stand, ascending by size, at the
    front, and the places after them are as before; the answer tells whether the trigger fires, the number of pairs that ceased as the trial count, and the
    number of changes.
@@ -213,7 +213,7 @@ trigger_answer trigger_fires(const uint32_t *session, size_t session_length);
 
 /* The states in depth-first order: State One, then along its links in ascending order to each state not yet met, and so on; then the states that are not
    reached so, ascending. Rules 3, 10.
-   Accepted: the first 16 places of the states hold the order, and zeros after it; the places past them are as before. The answer tells the number of
+   Accepted: the first 32 places of the states hold the order, and zeros after it; the places past them are as before. The answer tells the number of
    states. */
 trigger_answer trigger_order(
     const uint32_t *session, size_t session_length,

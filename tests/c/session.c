@@ -1,6 +1,6 @@
-/* The session of the engine's description, played through the C interface, one with an inverted state, one with an inverted state of mask zero, and two
-   with a state that no link leads to. Standard output is compared with session.expected; that each call leaves alone what it is to leave alone is tested here, and a breach is written as a
-   line of its own. */
+/* The session of the engine's description, played through the C interface, one with an inverted state, one with an inverted state of mask zero, two with a
+   state that no link leads to, and some of 16, 17 and 32 states. Standard output is compared with session.expected; that each call leaves alone what it is to
+   leave alone is tested here, and a breach is written as a line of its own. */
 #include "trigger_engine.h"
 
 #include <stdio.h>
@@ -115,13 +115,21 @@ static void order(const char *call, size_t room)
     end(answer, 0, 1);
 }
 
-/* Two states, and nodes without edges. */
-static void load(const char *call, const uint16_t *masks, const uint16_t *values, const uint32_t *links, uint32_t inverted, const uint16_t *samples,
-                 size_t nodes)
+/* So many states, and nodes without edges. */
+static void load_states(const char *call, size_t count, const uint16_t *masks, const uint16_t *values, const uint32_t *links, uint32_t inverted,
+                        const uint16_t *samples, size_t nodes)
 {
     static const uint32_t no_edges[] = {0};
     begin();
-    report(call, trigger_load(session, words, masks, 2, values, 2, links, 2, inverted, samples, nodes, no_edges, 0, no_edges, 0, changes, places));
+    report(call, trigger_load(session, words, masks, count, values, count, links, count, inverted, samples, nodes, no_edges, 0, no_edges, 0, changes,
+                              places));
+}
+
+/* Two states. */
+static void load(const char *call, const uint16_t *masks, const uint16_t *values, const uint32_t *links, uint32_t inverted, const uint16_t *samples,
+                 size_t nodes)
+{
+    load_states(call, 2, masks, values, links, inverted, samples, nodes);
 }
 
 static const uint16_t all_bits[] = {0xFFFF, 0xFFFF};
@@ -149,14 +157,14 @@ static void play_the_description(void)
 
     insert("insert 1 0", 1, 0, places);
     insert("insert 2 0", 2, 0, places);
-    insert("insert into 8191 places", 0, 0, TRIGGER_CHANGE_PLACES - 1);
+    insert("insert into 16383 places", 0, 0, TRIGGER_CHANGE_PLACES - 1);
     delete_edge("delete 0 1", 0, 1);
     delete_edge("delete 0 1", 0, 1);
 
     begin();
     question("fires", trigger_fires(session, words));
 
-    order("order into 15 places", TRIGGER_ORDER_PLACES - 1);
+    order("order into 31 places", TRIGGER_ORDER_PLACES - 1);
     order("order", sizeof states);
 }
 
@@ -205,6 +213,64 @@ static void play_orphans(void)
     question("fires", trigger_fires(session, words));
 }
 
+/* State 1 is linked to the last state alone. The states between them are linked to none, and their word is nowhere. */
+static uint16_t wide_masks[TRIGGER_MAX_STATES + 1], wide_values[TRIGGER_MAX_STATES + 1];
+static uint32_t wide_links[TRIGGER_MAX_STATES + 1];
+
+static void give_last(size_t count)
+{
+    memset(wide_links, 0, sizeof wide_links);
+    for (size_t i = 0; i <= TRIGGER_MAX_STATES; i++) {
+        wide_masks[i] = 0xFFFF;
+        wide_values[i] = 0x0009;
+    }
+    wide_values[0] = 0x0001;
+    wide_values[count - 1] = 0x0002;
+    wide_links[0] = 1u << (count - 1);
+}
+
+/* The state with the last number decides whether state 1 stands. */
+static void play_last(const char *call, size_t count)
+{
+    const uint16_t samples[] = {0x0001, 0x0002};
+    give_last(count);
+    load_states(call, count, wide_masks, wide_values, wide_links, 0, samples, 2);
+    insert("insert 0 1", 0, 1, places);
+    begin();
+    question("the last state at node 1", trigger_matches(session, words, (uint32_t)count, 1));
+    question("the state after it at node 1", trigger_matches(session, words, (uint32_t)count + 1, 1));
+    delete_edge("delete 0 1", 0, 1);
+    order("order", TRIGGER_ORDER_PLACES);
+}
+
+static void play_wide_triggers(void)
+{
+    const uint16_t samples[] = {0x0001, 0x0002};
+    /* sections of the session: after four words the masks, the values, the links; at its end the marks */
+    const uint32_t *links = session + 4 + 2 * TRIGGER_MAX_STATES, *marks = session + TRIGGER_SESSION_WORDS - TRIGGER_MAX_NODES;
+
+    play_last("load of 16 states", 16);
+    for (size_t i = 0; i < TRIGGER_MAX_STATES; i++) {
+        expect(links[i] < 0x10000, "the links of 16 states have an upper half");
+        expect(i < 16 || links[i] == 0, "a state that is not there has links");
+    }
+    expect(marks[0] == 0 && marks[1] == 0x8000, "the marks of 16 states");
+    play_last("load of 17 states", 17);
+    expect(marks[0] == 0 && marks[1] == 0x10000, "the marks of 17 states");
+    play_last("load of 32 states", 32);
+    expect(links[0] == 0x80000000 && marks[1] == 0x80000000, "the links and marks of 32 states");
+
+    /* the last state inverted and the word of node 0: it is at node 1 alone, as before */
+    wide_values[31] = 0x0001;
+    load_states("load of 32 states, the last inverted", 32, wide_masks, wide_values, wide_links, 0x80000000, samples, 2);
+    load_states("load of 33 states", 33, wide_masks, wide_values, wide_links, 0, samples, 2);
+    load_states("load of 31 states, a link to the next", 31, wide_masks, wide_values, wide_links, 0, samples, 2);
+    wide_links[0] = 0x00010000;
+    load_states("load of 16 states, a link to the next", 16, wide_masks, wide_values, wide_links, 0, samples, 2);
+    load_states("load of 17 states, a link to the last", 17, wide_masks, wide_values, wide_links, 0, samples, 2);
+    load_states("load of 17 states, the next inverted", 17, wide_masks, wide_values, wide_links, 0x00020000, samples, 2);
+}
+
 int main(void)
 {
     memset(session, PATTERN, sizeof session);
@@ -215,5 +281,6 @@ int main(void)
     play_the_description();
     play_inverted_states();
     play_orphans();
+    play_wide_triggers();
     return 0;
 }

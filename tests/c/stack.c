@@ -50,8 +50,9 @@ static int32_t changes[TRIGGER_CHANGE_PLACES];
 static uint8_t order[TRIGGER_ORDER_PLACES];
 static uint32_t start, end, state, node;
 
-static uint16_t masks[TRIGGER_MAX_STATES], values[TRIGGER_MAX_STATES];
-static uint32_t links[TRIGGER_MAX_STATES], inverted;
+/* one state more than a load may have, for a load that is refused */
+static uint16_t masks[TRIGGER_MAX_STATES + 1], values[TRIGGER_MAX_STATES + 1];
+static uint32_t links[TRIGGER_MAX_STATES + 1], inverted;
 static uint16_t samples[TRIGGER_MAX_NODES];
 static uint32_t starts[TRIGGER_MAX_EDGES], ends[TRIGGER_MAX_EDGES];
 static size_t states, nodes, edges;
@@ -185,7 +186,11 @@ static void measure(struct measured *one, const char *input, uint64_t expected)
     expect(answer == expected, "the input is another");
     expect(bottom > 0, "the painted stack is too small");
     const size_t bytes = top - bottom + PLACE + one->arguments * PLACE;
-    printf("%s, %s: %zu bytes\n", one->name, input, bytes);
+    if (states > 0) {
+        printf("%s, %zu states, %s: %zu bytes\n", one->name, states, input, bytes);
+    } else {
+        printf("%s, %s: %zu bytes\n", one->name, input, bytes);
+    }
     if (bytes > one->greatest) {
         one->greatest = bytes;
     }
@@ -207,9 +212,17 @@ static trigger_answer accepted(int yes, uint32_t trials, uint32_t count)
 /* States that admit every node, whose samples are all zero: with a mask of zero, inverted or not, or inverted with another value. */
 enum links_kind { UNLINKED, CHAIN, RING, ALL };
 
+/* Every other state, those with an even number. */
+static const uint32_t every_other = 0xAAAAAAAA;
+
+static uint32_t all_states(void)
+{
+    return UINT32_MAX >> (32 - states);
+}
+
 static void give_inverted(uint32_t set)
 {
-    inverted = set;
+    inverted = set & all_states();
     for (size_t i = 0; i < states; i++) {
         const int turned = (set >> i & 1u) != 0;
         masks[i] = turned ? 0xFFFF : 0;
@@ -220,7 +233,7 @@ static void give_inverted(uint32_t set)
 static void give_blank_inverted(uint32_t set)
 {
     give_inverted(0);
-    inverted = set;
+    inverted = set & all_states();
 }
 
 static void give_states(size_t count, enum links_kind kind)
@@ -229,17 +242,17 @@ static void give_states(size_t count, enum links_kind kind)
     give_inverted(0);
     for (size_t i = 0; i < count; i++) {
         const size_t next = i + 1 < count ? i + 1 : 0;
-        links[i] = kind == ALL ? (1u << count) - 1 : kind == RING || (kind == CHAIN && next != 0) ? 1u << next : 0;
+        links[i] = kind == ALL ? all_states() : kind == RING || (kind == CHAIN && next != 0) ? 1u << next : 0;
     }
 }
 
 /* All states but the last in a chain; the last admits no node, and no link leads to it. That the trigger fires is told by the links. */
-static void give_orphan(void)
+static void give_orphan(size_t count)
 {
-    give_states(16, CHAIN);
-    links[14] = 0;
-    masks[15] = 0xFFFF;
-    values[15] = 0x5A00;
+    give_states(count, CHAIN);
+    links[count - 2] = 0;
+    masks[count - 1] = 0xFFFF;
+    values[count - 1] = 0x5A00;
 }
 
 /* Nodes in a row, with edges from each to so many that follow. Where the row is closed, the first follows the last. */
@@ -287,82 +300,97 @@ static void pair(uint32_t u, uint32_t v)
     node = v;
 }
 
-static void measure_loads(void)
+/* So many states and 512 nodes. */
+static void measure_loads(uint32_t count)
 {
-    give_states(16, RING);
+    const uint32_t pairs = TRIGGER_MAX_NODES * count;
+    give_states(count, RING);
     give_nodes(512, 4, 1);
-    measure(&load, "16 states in a ring, 512 nodes, 2,048 edges, all stand", accepted(1, 8192, 8192));
-    give_inverted(0xAAAA);
-    measure(&load, "the same, every other state inverted", accepted(1, 8192, 8192));
-    give_inverted(0xFFFF);
-    measure(&load, "the same, all states inverted", accepted(1, 8192, 8192));
-    give_blank_inverted(0xFFFF);
-    measure(&load, "the same, all states inverted and of mask zero", accepted(1, 8192, 8192));
-    inverted = 0x10000;
-    measure(&load, "the same, refused for an inverted state that is not there", TRIGGER_STATES_WRONG);
-    give_states(16, ALL);
-    measure(&load, "the same, all states linked to all", accepted(1, 8192, 8192));
+    measure(&load, "in a ring, 512 nodes, 2,048 edges, all stand", accepted(1, pairs, pairs));
+    give_inverted(every_other);
+    measure(&load, "the same, every other state inverted", accepted(1, pairs, pairs));
+    give_inverted(all_states());
+    measure(&load, "the same, all states inverted", accepted(1, pairs, pairs));
+    give_blank_inverted(all_states());
+    measure(&load, "the same, all states inverted and of mask zero", accepted(1, pairs, pairs));
+    give_states(count, ALL);
+    measure(&load, "the same, all states linked to all", accepted(1, pairs, pairs));
     starts[edges - 1] = 0;
     measure(&load, "the same, refused for its last edge", TRIGGER_EDGES_UNORDERED);
     give_nodes(512, 4, 0);
-    measure(&load, "16 states, 512 nodes, 2,038 edges without a ring, none stands", accepted(0, 8192, 0));
-    give_orphan();
+    measure(&load, "512 nodes, 2,038 edges without a ring, none stands", accepted(0, pairs, 0));
+    give_orphan(count);
     give_nodes(512, 4, 1);
-    measure(&load, "15 states in a chain, 512 nodes, 2,048 edges, all stand but an orphan", accepted(1, 7680, 7680));
+    measure(&load, "in a chain but an orphan, 512 nodes, 2,048 edges, all in the chain stand", accepted(1, pairs - 512, pairs - 512));
+}
+
+static void measure_other_loads(void)
+{
+    give_nodes(512, 4, 1);
+    give_states(16, RING);
+    inverted = 0x10000;
+    measure(&load, "refused for an inverted state that is not there", TRIGGER_STATES_WRONG);
+    give_states(16, RING);
+    links[15] = 0x10000;
+    measure(&load, "refused for a link to a state that is not there", TRIGGER_LINK_WRONG);
+    give_states(TRIGGER_MAX_STATES, RING);
+    states = TRIGGER_MAX_STATES + 1;
+    measure(&load, "refused for their number", TRIGGER_STATES_WRONG);
     give_states(1, UNLINKED);
     give_nodes(0, 0, 0);
-    measure(&load, "one state, no node", accepted(0, 0, 0));
+    measure(&load, "no node", accepted(0, 0, 0));
     words = TRIGGER_SESSION_WORDS - 1;
     measure(&load, "refused for short memory", TRIGGER_MEMORY_SHORT);
 }
 
-static void measure_edits(void)
+static void measure_edits(uint32_t count)
 {
-    give_states(16, RING);
+    const uint32_t pairs = TRIGGER_MAX_NODES * count;
+    give_states(count, RING);
     give_nodes(512, 1, 0);
     give_session();
     edge(511, 0);
-    measure(&insert, "ring of 512 nodes closed, 8,192 pairs begin", accepted(1, 8192, 8192));
+    measure(&insert, "ring of 512 nodes closed, all pairs begin", accepted(1, pairs, pairs));
     edit_given(trigger_insert, 511, 0);
-    measure(&delete_edge, "ring of 512 nodes opened, 8,192 pairs cease", accepted(0, 8192, 8192));
+    measure(&delete_edge, "ring of 512 nodes opened, all pairs cease", accepted(0, pairs, pairs));
 
-    give_inverted(0xAAAA);
+    give_inverted(every_other);
     give_session();
-    measure(&insert, "the same ring closed, every other state inverted", accepted(1, 8192, 8192));
+    measure(&insert, "the same ring closed, every other state inverted", accepted(1, pairs, pairs));
     edit_given(trigger_insert, 511, 0);
-    measure(&delete_edge, "the same ring opened, every other state inverted", accepted(0, 8192, 8192));
-    give_blank_inverted(0xAAAA);
+    measure(&delete_edge, "the same ring opened, every other state inverted", accepted(0, pairs, pairs));
+    give_blank_inverted(every_other);
     give_session();
-    measure(&insert, "the same ring closed, every other state inverted and of mask zero", accepted(1, 8192, 8192));
+    measure(&insert, "the same ring closed, every other state inverted and of mask zero", accepted(1, pairs, pairs));
     edit_given(trigger_insert, 511, 0);
-    measure(&delete_edge, "the same ring opened, every other state inverted and of mask zero", accepted(0, 8192, 8192));
+    measure(&delete_edge, "the same ring opened, every other state inverted and of mask zero", accepted(0, pairs, pairs));
     give_inverted(0);
 
     give_nodes(512, 4, 0);
     give_session();
-    measure(&insert, "the same ring with 2,039 edges closed", accepted(1, 8192, 8192));
+    measure(&insert, "the same ring with 2,039 edges closed", accepted(1, pairs, pairs));
     edit_given(trigger_insert, 511, 0);
-    measure(&delete_edge, "the same ring with 2,039 edges opened", accepted(0, 8192, 8192));
+    measure(&delete_edge, "the same ring with 2,039 edges opened", accepted(0, pairs, pairs));
 
     give_nodes(512, 1, 0);
     give_session();
     edit_given(trigger_delete, 510, 511);
     edge(510, 511);
-    measure(&insert, "8,176 pairs tried, none begins", accepted(0, 8176, 0));
+    measure(&insert, "all pairs of 511 nodes tried, none begins", accepted(0, pairs - count, 0));
     edit_given(trigger_insert, 510, 511);
     measure(&delete_edge, "where none stands", accepted(0, 0, 0));
 
-    give_states(16, CHAIN);
+    give_states(count, CHAIN);
     give_nodes(512, 0, 0);
     give_session();
     edge(0, 1);
-    measure(&insert, "15 pairs tried at one node, one begins", accepted(0, 15, 1));
+    measure(&insert, "in a chain, all but the last tried at one node, one begins", accepted(0, count - 1, 1));
     edit_given(trigger_insert, 0, 1);
-    measure(&delete_edge, "one pair ceases", accepted(0, 1, 1));
+    measure(&delete_edge, "in a chain, one pair ceases", accepted(0, 1, 1));
     edge(1, 0);
-    measure(&insert, "29 pairs tried at two nodes, all begin", accepted(1, 29, 29));
+    measure(&insert, "in a chain, tried at two nodes, all begin", accepted(1, 2 * count - 3, 2 * count - 3));
 
-    give_states(16, RING);
+    give_states(count, RING);
     give_nodes(512, 4, 1);
     give_session();
     edge(0, 1);
@@ -378,24 +406,26 @@ static void measure_edits(void)
     edge(0, 1);
     measure(&insert, "the 2,048th edge, no pair begins", accepted(1, 0, 0));
 
-    give_inverted(0xAAAA);
+    give_inverted(every_other);
     give_session();
     measure(&insert, "full session, every other state inverted, refused for an edge that is there", TRIGGER_EDGE_PRESENT);
     measure(&delete_edge, "full session, every other state inverted, no pair ceases", accepted(1, 0, 0));
     edit_given(trigger_delete, 0, 1);
     measure(&insert, "the 2,048th edge, every other state inverted, no pair begins", accepted(1, 0, 0));
 
-    give_orphan();
+    give_orphan(count);
     give_session();
     measure(&delete_edge, "full session, all stand but an orphan, no pair ceases", accepted(1, 0, 0));
     edit_given(trigger_delete, 0, 1);
     measure(&insert, "the 2,048th edge, all stand but an orphan, no pair begins", accepted(1, 0, 0));
+    /* at the row's end the states of the chain lack as many nodes as they have states after them */
+    const uint32_t lacking = (count - 1) * (count - 2) / 2;
     give_nodes(512, 1, 0);
     give_session();
     edge(511, 0);
-    measure(&insert, "15 states in a chain and an orphan that stands nowhere, 105 pairs begin", accepted(1, 105, 105));
+    measure(&insert, "in a chain but an orphan that stands nowhere, ring closed", accepted(1, lacking, lacking));
     edit_given(trigger_insert, 511, 0);
-    measure(&delete_edge, "15 states in a chain and an orphan that stands nowhere, 105 pairs cease", accepted(1, 105, 105));
+    measure(&delete_edge, "in a chain but an orphan that stands nowhere, ring opened", accepted(1, lacking, lacking));
 
     session_given[0] = 0;
     measure(&insert, "refused for the layout", TRIGGER_NOT_IN_LAYOUT);
@@ -405,60 +435,72 @@ static void measure_edits(void)
     measure(&delete_edge, "refused for short memory", TRIGGER_MEMORY_SHORT);
 }
 
-static void measure_questions(void)
+static void measure_questions(uint32_t count)
 {
-    give_states(16, RING);
+    give_states(count, RING);
     give_nodes(512, 4, 1);
     give_session();
-    pair(16, 511);
+    pair(count, 511);
     measure(&matches, "full session, yes", accepted(1, 0, 0));
     measure(&fires, "full session, yes", accepted(1, 0, 0));
-    measure(&ordering, "full session, 16 states in a ring", accepted(0, 0, 16));
-    pair(17, 511);
+    measure(&ordering, "full session, in a ring", accepted(0, 0, count));
+    pair(count + 1, 511);
     measure(&matches, "full session, refused for a state", TRIGGER_NAME_WRONG);
 
-    give_inverted(0xAAAA);
+    give_inverted(every_other);
     give_session();
-    pair(16, 511);
+    pair(count, 511);
     measure(&matches, "full session, every other state inverted, yes", accepted(1, 0, 0));
     measure(&fires, "full session, every other state inverted, yes", accepted(1, 0, 0));
-    measure(&ordering, "full session, every other state inverted", accepted(0, 0, 16));
-    give_blank_inverted(0xAAAA);
+    measure(&ordering, "full session, every other state inverted", accepted(0, 0, count));
+    give_blank_inverted(every_other);
     give_session();
     measure(&matches, "full session, every other state inverted and of mask zero, yes", accepted(1, 0, 0));
     measure(&fires, "full session, every other state inverted and of mask zero, yes", accepted(1, 0, 0));
-    measure(&ordering, "full session, every other state inverted and of mask zero", accepted(0, 0, 16));
+    measure(&ordering, "full session, every other state inverted and of mask zero", accepted(0, 0, count));
 
-    give_orphan();
+    give_orphan(count);
     give_session();
     measure(&fires, "full session, all stand but an orphan, yes", accepted(1, 0, 0));
 
-    give_states(16, CHAIN);
+    /* in a chain and in a ring each visit is made in the one before it: as many are under way as there are states */
+    give_states(count, CHAIN);
     give_session();
-    measure(&ordering, "full session, 16 states in a chain", accepted(0, 0, 16));
-    give_states(16, ALL);
+    measure(&ordering, "full session, in a chain", accepted(0, 0, count));
+    give_states(count, ALL);
     give_session();
-    measure(&ordering, "full session, all states linked to all", accepted(0, 0, 16));
-    give_states(16, UNLINKED);
+    measure(&ordering, "full session, all states linked to all", accepted(0, 0, count));
+    give_states(count, UNLINKED);
     give_session();
-    measure(&ordering, "full session, 16 states without links", accepted(0, 0, 16));
-    give_states(1, UNLINKED);
-    give_session();
-    measure(&ordering, "full session, one state", accepted(0, 0, 1));
+    measure(&ordering, "full session, without links", accepted(0, 0, count));
 
-    give_states(16, RING);
+    give_states(count, RING);
     give_nodes(512, 4, 0);
     give_session();
-    pair(16, 511);
+    pair(count, 511);
     measure(&matches, "no mark, no", accepted(0, 0, 0));
     measure(&fires, "no mark, no", accepted(0, 0, 0));
+    measure(&ordering, "no mark, in a ring", accepted(0, 0, count));
     give_nodes(0, 0, 0);
-    give_states(16, CHAIN);
     give_session();
-    measure(&ordering, "no node, 16 states in a chain", accepted(0, 0, 16));
+    measure(&ordering, "no node, in a ring", accepted(0, 0, count));
+    give_states(count, CHAIN);
+    give_session();
+    measure(&ordering, "no node, in a chain", accepted(0, 0, count));
+    give_states(count, ALL);
+    give_session();
+    measure(&ordering, "no node, all states linked to all", accepted(0, 0, count));
+}
+
+static void measure_other_questions(void)
+{
     give_states(1, UNLINKED);
+    give_nodes(512, 4, 1);
     give_session();
-    measure(&ordering, "no node, one state", accepted(0, 0, 1));
+    measure(&ordering, "full session", accepted(0, 0, 1));
+    give_nodes(0, 0, 0);
+    give_session();
+    measure(&ordering, "no node", accepted(0, 0, 1));
 
     session_given[0] = 0;
     measure(&matches, "refused for the layout", TRIGGER_NOT_IN_LAYOUT);
@@ -477,9 +519,15 @@ int main(void)
     measure(&move, "8,192 bytes", (uintptr_t)to);
     measure(&session_words, "no argument", TRIGGER_SESSION_WORDS);
     measure(&change_places, "no argument", TRIGGER_CHANGE_PLACES);
-    measure_loads();
-    measure_edits();
-    measure_questions();
+    /* half a set of states, one more, and a whole one */
+    const uint32_t counts[] = {16, 17, 32};
+    for (size_t i = 0; i < sizeof counts / sizeof counts[0]; i++) {
+        measure_loads(counts[i]);
+        measure_edits(counts[i]);
+        measure_questions(counts[i]);
+    }
+    measure_other_loads();
+    measure_other_questions();
 
     conclude(&fill);
     conclude(&copy);
