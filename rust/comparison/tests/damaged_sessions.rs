@@ -496,12 +496,16 @@ fn holds_with(session: &[u32], word: usize, bit: usize, random: &mut Random) -> 
     in_layout
 }
 
-/// States of one bit of the sample each: state s compares bit s % 16, and every third one wants it to be missing. The
-/// nodes have one bit each, in turns.
+/// The bit of the sample that a state compares: another one for the state with the same place in the other half.
+fn own_bit(state: usize) -> usize {
+    (state + state / 16 * 5) % 16
+}
+
+/// States of one bit of the sample each; every third one wants it to be missing. The nodes have one bit each, in turns.
 fn of_one_bit(states: usize, nodes: usize) -> Case {
     let mut case = Case { samples: (0..nodes).map(|node| 1 << (node % 16)).collect(), ..Case::default() };
     for state in 0..states {
-        case.state(1 << (state % 16), 1 << (state % 16), 0);
+        case.state(1 << own_bit(state), 1 << own_bit(state), 0);
         case.inverted |= u32::from(state % 3 == 2) << state;
     }
     case
@@ -516,7 +520,7 @@ fn one_mark_more(case: &Case, random: &mut Random) {
     unmarked[MARKS_AT..][..nodes].fill(0);
     for state in 0..case.masks.len() {
         for node in 0..nodes {
-            let admitted = (node % 16 == state % 16) != case.is_inverted(state);
+            let admitted = (node % 16 == own_bit(state)) != case.is_inverted(state);
             assert_eq!(whole[MARKS_AT + node] >> state & 1 == 1, admitted, "state {state} at node {node}");
             assert!(admitted || !holds_with(&whole, MARKS_AT + node, state, random));
             assert_eq!(holds_with(&unmarked, MARKS_AT + node, state, random), admitted);

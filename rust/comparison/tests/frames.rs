@@ -4,7 +4,7 @@ use comparison::Random;
 use comparison::program::{Program, path};
 use comparison::random::seed;
 use reference::frames::output;
-use reference::rules::STATES;
+use reference::rules::{NODES, STATES};
 use std::collections::BTreeMap;
 
 /// How often each kind of output line came, refusals with their number.
@@ -286,6 +286,32 @@ fn states_of_every_kind() {
         assert_eq!(String::from_utf8(output(&input)).unwrap(), wanted, "inverted {inverted:08X}");
         assert!(run(&program, &mut random, &input) == wanted.as_bytes(), "inverted {inverted:08X}");
     }
+}
+
+/// Each inversion byte before the run and after it: two of them make a state, and no other makes a frame.
+#[test]
+fn every_inversion_byte() {
+    let Some(program) = path() else { return };
+    let mut random = Random::new(seed("every_inversion_byte"), 0);
+    let states: String = (0..=u8::MAX).map(|byte| format!("0A{byte:02X}FFFF000500000000\n")).collect();
+    let input = format!("{states}020005\n020006\n03\n{states}06\n");
+    // State 1 is 0005, state 2 anything but 0005.
+    let none = "8F01\n".repeat(254);
+    let wanted = format!("{none}800100020002\n8100000001\n8100000042\n8F02\n8F02\n{none}820102\n");
+    assert_eq!(String::from_utf8(output(input.as_bytes())).unwrap(), wanted);
+    assert!(run(&program, &mut random, input.as_bytes()) == wanted.as_bytes());
+}
+
+/// A run at which every pair of 32 states and 512 nodes begins to stand: both counts have all of their digits.
+#[test]
+fn the_longest_answer() {
+    let Some(program) = path() else { return };
+    let mut random = Random::new(seed("the_longest_answer"), 0);
+    let input = "0A010000FFFF00000000\n".repeat(STATES) + &"020000\n".repeat(NODES) + "03\n";
+    let sizes = (0..NODES).flat_map(|node| (1..=STATES).map(move |state| node * 64 + state));
+    let changes: String = sizes.map(|size| format!("81{size:08X}\n")).collect();
+    let wanted = format!("800140004000\n{changes}");
+    assert!(run(&program, &mut random, input.as_bytes()) == wanted.as_bytes());
 }
 
 /// The walk order of so many states without links.

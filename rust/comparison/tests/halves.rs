@@ -21,13 +21,14 @@ fn toggle<S: Subject>(subject: S, session: &mut [u32], (start, end): (u32, u32),
     (answer.yes(), room[..answer.changes()].to_vec())
 }
 
-/// A case of up to sixteen states, with few nodes, and an edge between two of them.
+/// A case of up to sixteen states with few nodes.
 fn narrow(random: &mut Random) -> Case {
     let (states, nodes) = (random.between(1, HALF), random.between(1, 12));
     let (edges, kinds) = (random.below(4 * nodes), random.between(1, 3));
     Case::random(random, states, nodes, edges, kinds)
 }
 
+/// An edge between its nodes.
 fn edge(random: &mut Random, case: &Case) -> (u32, u32) {
     let nodes = case.samples.len();
     (random.below(nodes) as u32, random.below(nodes) as u32)
