@@ -125,7 +125,7 @@ fn answer_input(
 }
 
 // The output: more than the longest answer, so that it holds many of them, and writes are few.
-const OUTPUT_LENT: usize = 262144;
+const OUTPUT_LENT: usize = 524288;
 
 // The memory is zero at the start, which is the machine's start too.
 fn main() {

@@ -11,7 +11,7 @@ const HEAD: usize = 13;
 /// The bytes of the line of a change.
 const CHANGE: usize = 11;
 /// The size of the output memory, that of the frame program.
-const OUTPUT: usize = 262_144;
+const OUTPUT: usize = 524_288;
 
 /// The two digits of each byte.
 static PAIRS: [[u8; 2]; 256] = pairs();

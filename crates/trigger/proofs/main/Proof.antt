@@ -1,12 +1,12 @@
 -- The memory is long enough, and zero.
-use Prim.Native.Nat.{ℕ}
+use Prim.Native.Nat.{ℕ, _≤_}
 use borrow.Author.Needs.{needs}
 use native.Mathlib.Omega.{arith}
-use mathlib.Core.Path.{refl}
+use mathlib.Core.Path.{refl, sym, subst}
 use lib.IntN.{pos}
-use lib.ListN.{length-replicate}
+use lib.ListN.{length, replicate, length-replicate}
 use Rattle.frames.specs.Lines.{frontSize}
-use Rattle.frames.specs.Machine.{countsSize, wordsSize}
+use Rattle.frames.specs.Machine.{countsSize, wordsSize, outputSize}
 use Rattle.session.specs.Limits.{fixedSize, maxChanges}
 use Rattle.trigger.proofs.main.Statement.{statement}
 use Rattle.trigger.proofs.main.Tie as tie
@@ -35,6 +35,14 @@ slice-aggregate-answer-input-6 c = search needs
 slice-aggregate-answer-input-7 : tie.Need-slice-aggregate-answer-input-7
 slice-aggregate-answer-input-7 c = search needs
 
+-- the code's OUTPUT_LENT
+abbrev lent : ℕ
+lent = 524288
+
+-- of a list of n zeros nothing is computed but its length: there are too many
+enough : (n : ℕ) → outputSize ≤ n → outputSize ≤ length (replicate {A = ℕ} n 0)
+enough n l = subst (λ (k : ℕ). outputSize ≤ k) (sym (length-replicate {A = ℕ} n 0)) l
+
 answer-input-requires : tie.Need-answer-input-requires
 answer-input-requires c κs = (
   record {
@@ -46,7 +54,7 @@ answer-input-requires c κs = (
     nodes = refl;
   },
   omega (arith, length-replicate maxChanges (pos 0)),
-  simp length-replicate (omega arith),
+  enough lent (omega arith),
   omega (arith, length-replicate {A = ℕ} frontSize 0),
 )
 
