@@ -14,7 +14,7 @@ use Rattle.simulation.proofs.Sets.{split, same, and-make, and-l, and-r, any-mak
 use Rattle.bits.specs.Word.{members, meets}
 use Rattle.bits.proofs.Words.{zero-members}
 use Rattle.pair_tables.specs.Tables.{marked}
-use Rattle.links.specs.Links.{linkedFrom, linksFor, CallersFor}
+use Rattle.links.specs.Links.{linkedFrom, linksToIn, CallersIn}
 use Rattle.simulation.proofs.Gains.{row-more}
 
 -- ---- a state is put into the words of its targets: `rest` is what is left of these
@@ -78,13 +78,13 @@ module _ (k : ℕ) (links : List ℕ) where
     words = row-more (λ x o. marked links o x) (marked old) (marked new) n (c .words) h;
   }
 
-  pub called-end : {n : ℕ} {callers : List ℕ} → Called n callers → n ≡ length links → CallersFor k links callers
+  pub called-end : {n : ℕ} {callers : List ℕ} → Called n callers → n ≡ length links → CallersIn k links callers
   called-end c e = record { long = c .long; called = λ o u l. rw (← e) (c .words u o) }
 
 -- ---- from a set its callers are those with a link to it
 
-pub callers-linked : (k : ℕ) (links callers : List ℕ) → CallersFor k links callers → (w : ℕ) → linkedFrom callers w ≡ linksFor k links w
-callers-linked k links callers c w = fun-ext (λ u. same (linkedFrom callers w u) (linksFor k links w u) (there u) (back u))
+pub callers-linked : (k : ℕ) (links callers : List ℕ) → CallersIn k links callers → (w : ℕ) → linkedFrom callers w ≡ linksToIn k links w
+callers-linked k links callers c w = fun-ext (λ u. same (linkedFrom callers w u) (linksToIn k links w u) (there u) (back u))
   where
     calls : ℕ → Set
     calls u o = members w o && members (getD callers o 0) u
@@ -92,7 +92,7 @@ callers-linked k links callers c w = fun-ext (λ u. same (linkedFrom callers w u
     links-at : ℕ → Set
     links-at u o = members (getD links u 0) o && members w o
 
-    there : (u : ℕ) → linkedFrom callers w u ≡ true → linksFor k links w u ≡ true
+    there : (u : ℕ) → linkedFrom callers w u ≡ true → linksToIn k links w u ≡ true
     there u h =
         let r = any-take (length callers) (calls u) h in
         let o = r .0 in
@@ -102,7 +102,7 @@ callers-linked k links callers c w = fun-ext (λ u. same (linkedFrom callers w u
         (any-make k (links-at u) o l
         (and-make (and-r (ltb u (length links)) (members (getD links u 0) o) both) (and-l (members w o) (members (getD callers o 0) u) (r .2))))
 
-    back : (u : ℕ) → linksFor k links w u ≡ true → linkedFrom callers w u ≡ true
+    back : (u : ℕ) → linksToIn k links w u ≡ true → linkedFrom callers w u ≡ true
     back u h =
         let r = any-take k (links-at u) (and-r (ltb u (length links)) (meets k (getD links u 0) w) h) in
         let o = r .0 in

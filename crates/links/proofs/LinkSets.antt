@@ -18,7 +18,7 @@ use Rattle.simulation.proofs.Edges.{any-same}
 use Rattle.bits.specs.Word.{members, meets, halfBits, setBits}
 use Rattle.bits.proofs.Tests.{meets-wider}
 use Rattle.bits.proofs.Words.{zero-members, or-members}
-use Rattle.links.specs.Links.{linkedFrom, linksFor, linksTo}
+use Rattle.links.specs.Links.{linkedFrom, linksToIn, linksTo}
 use Rattle.simulation.proofs.Gains.{gained-none, gained-more, gained-pass}
 
 -- ---- the states with a link to a state of a word, those below u tested
@@ -40,9 +40,9 @@ module _ (k : ℕ) (links : List ℕ) (word : ℕ) where
     pub linked-pass : meets k (getD links u 0) word ≡ false → members all ≡ linkedTo (u + 1)
     linked-pass fails = gained-pass none touches u e fails
 
-pub links-none : (k : ℕ) (links : List ℕ) (u : ℕ) → linksFor k links 0 u ≡ false
+pub links-none : (k : ℕ) (links : List ℕ) (u : ℕ) → linksToIn k links 0 u ≡ false
 links-none k links u =
-    refuted (linksFor k links 0 u)
+    refuted (linksToIn k links 0 u)
     (λ h.
     let r = any-take k (λ o. members (getD links u 0) o && members 0 o) (and-r (ltb u (length links)) (meets k (getD links u 0) 0) h) in
     clash (and-r (members (getD links u 0) (r .0)) (members 0 (r .0)) (r .2)) (zero-members (r .0)))
@@ -135,7 +135,7 @@ module _ (links : List ℕ) (word : ℕ) where
 module _ (k : ℕ) (links : List ℕ) (word others : ℕ) where
   pub record Thinned (left rest : ℕ) : Type 0 where
     pub small : (u : ℕ) → members rest u ≡ true → u < length links
-    pub words : (u : ℕ) → members left u ≡ (members word u && (members rest u || not (linksFor k links others u)))
+    pub words : (u : ℕ) → members left u ≡ (members word u && (members rest u || not (linksToIn k links others u)))
 
   pub thinned-start : (rest : ℕ) → ((u : ℕ) → members rest u ≡ (members word u && ltb u (length links))) → Thinned word rest
   thinned-start rest e =
@@ -160,10 +160,10 @@ module _ (k : ℕ) (links : List ℕ) (word others : ℕ) where
     fewer-small x h = r .small x (and-l (members rest x) (not (eqb x u)) (sym (at x) ∙ h))
 
     -- at another state nothing moves
-    elsewhere : (x : ℕ) → eqb x u ≡ false → members left x ≡ (members word x && (members rest' x || not (linksFor k links others x)))
+    elsewhere : (x : ℕ) → eqb x u ≡ false → members left x ≡ (members word x && (members rest' x || not (linksToIn k links others x)))
     elsewhere x t =
         let still : members rest' x ≡ members rest x = at x ∙ rw t (and-true (members rest x)) in
-        r .words x ∙ ap (λ (b : Bool). members word x && (b || not (linksFor k links others x))) (sym still)
+        r .words x ∙ ap (λ (b : Bool). members word x && (b || not (linksToIn k links others x))) (sym still)
 
     done-with : members rest' u ≡ false
     done-with = at u ∙ rw (eq-eqb u u refl) (and-false (members rest u))
@@ -194,16 +194,16 @@ module _ (k : ℕ) (links : List ℕ) (word others : ℕ) where
               (split (eqb x u));
         }
 
-  pub thinned-done : (left rest : ℕ) → Thinned left rest → rest ≡ 0 → members left ≡ minus (members word) (linksFor k links others)
+  pub thinned-done : (left rest : ℕ) → Thinned left rest → rest ≡ 0 → members left ≡ minus (members word) (linksToIn k links others)
   thinned-done left rest r e =
-      fun-ext (λ u. r .words u ∙ ap (λ (b : Bool). members word u && (b || not (linksFor k links others u))) (ap (λ (x : ℕ). members x u) e ∙ zero-members u))
+      fun-ext (λ u. r .words u ∙ ap (λ (b : Bool). members word u && (b || not (linksToIn k links others u))) (ap (λ (x : ℕ). members x u) e ∙ zero-members u))
 
 -- ---- the width does not matter: links of k bits are told by k bits
 
-pub links-wider : (k j : ℕ) (links : List ℕ) (word : ℕ) → below (2 ^ k) links ≡ true → k ≤ j → linksFor j links word ≡ linksFor k links word
+pub links-wider : (k j : ℕ) (links : List ℕ) (word : ℕ) → below (2 ^ k) links ≡ true → k ≤ j → linksToIn j links word ≡ linksToIn k links word
 links-wider k j links word h l =
     fun-ext (λ u. ap (λ (b : Bool). ltb u (length links) && b) (meets-wider k j (getD links u 0) word (below-at (2 ^ k) links h (pow-pos k) u) l))
 
 -- of half a word: the sets of at most 16 states are those that they were
-pub links-half : (links : List ℕ) (word : ℕ) → below (2 ^ halfBits) links ≡ true → linksTo links word ≡ linksFor halfBits links word
+pub links-half : (links : List ℕ) (word : ℕ) → below (2 ^ halfBits) links ≡ true → linksTo links word ≡ linksToIn halfBits links word
 links-half links word h = links-wider halfBits setBits links word h (omega arith)

@@ -10,7 +10,7 @@ use lib.Dec.{ltb}
 use lib.ListN.{length, getD, drop, List·getD-eq-default}
 use lib.Pow.{pow-pos, pow-mono}
 use Rattle.bits.proofs.Words.{word-below}
-use Rattle.session.specs.Limits.{maxStates, maxNodes, invertedAt, masksAt, valuesAt, linksAt, marksFor, marksAt, fixedSize}
+use Rattle.session.specs.Limits.{maxNodes, invertedAt, masksAt, valuesAt, linksAt, marksFor, marksAt, fixedSize}
 use Rattle.session.specs.Trigger.{Trigger, Graph, Marks, states, nodes}
 use Rattle.session.specs.Layout.{markWord, imageFor, image, triggerOf, graphOf, marksIn, marksOf, inLayout}
 use Rattle.session.specs.Former.{formerStates, Narrow, NarrowIn, MarksAsHeld}

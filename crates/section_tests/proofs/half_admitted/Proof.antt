@@ -10,7 +10,7 @@ use lib.Seq.{length-take-le}
 use Rattle.simulation.specs.Sets.{Set, allBelow}
 use Rattle.simulation.proofs.Sets.{all-make}
 use Rattle.simulation.proofs.Edges.{all-same}
-use Rattle.bits.specs.Word.{members, halfBits}
+use Rattle.bits.specs.Word.{members}
 use Rattle.bits.proofs.Words.{zero-members, shifted-members}
 use Rattle.bits.proofs.Gathers.{gathers}
 use Rattle.session.specs.Limits.{wordBits, maxNodes}
