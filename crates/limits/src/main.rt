@@ -248,7 +248,8 @@ fn partial(label: &[u8], a: usize, b: usize, c: usize, d: usize, e: usize) {
     attempt(label, sizes, &links, &starts, &ends);
 }
 
-fn main() {
+// How many states and nodes.
+fn numbers() {
     plain(b"no states", 0, 1);
     plain(b"1 state, no nodes", 1, 0);
     plain(b"1 state, 1 node", 1, 1);
@@ -261,6 +262,10 @@ fn main() {
     plain(b"16 states, 512 nodes", 16, 512);
     plain(b"32 states, 512 nodes", 32, 512);
     plain(b"33 states, 513 nodes", 33, 513);
+}
+
+// Links and inversions of states that are there, and of others.
+fn sets() {
     linked(b"3 states, a link to state 3", 3, 4, 0);
     linked(b"3 states, a link to state 4", 3, 8, 0);
     linked(b"3 states, a link to state 32", 3, 2147483648, 0);
@@ -278,6 +283,10 @@ fn main() {
     linked(b"16 states, state 17 inverted", 16, 0, 1 << 16);
     linked(b"32 states, all inverted", 32, 0, 4294967295);
     linked(b"33 states, a link to state 32", 33, 1 << 31, 0);
+}
+
+// Edges.
+fn graphs() {
     joined(b"edges (0, 511) and (511, 0)", 0, 511, 511, 0);
     joined(b"edges (0, 512) and (511, 0)", 0, 512, 511, 0);
     joined(b"edges (0, 0) and (512, 0)", 0, 0, 512, 0);
@@ -287,6 +296,10 @@ fn main() {
     joined(b"edges (0, 4294967295) and (0, 0)", 0, 4294967295, 0, 0);
     dense(b"2048 edges", 2048);
     dense(b"2049 edges", 2049);
+}
+
+// What is lent, and what is given in part.
+fn lengths() {
     lent(
         b"memory and room as long as they must be",
         session::FIXED_SIZE,
@@ -308,4 +321,11 @@ fn main() {
     partial(b"links without mask and value", 1, 1, 2, 0, 0);
     partial(b"a start without an end", 1, 1, 1, 1, 0);
     partial(b"an end without a start", 1, 1, 1, 0, 1);
+}
+
+fn main() {
+    numbers();
+    sets();
+    graphs();
+    lengths();
 }
