@@ -9,27 +9,19 @@ use lib.Dec.{ltb, eqb}
 use lib.ListN.{length, set, length-append}
 use lib.IntN.{ℤ, pos, negsuc, natAbs}
 use lib.Signed.{nonNeg}
-use lib.Pow.{shr-shr}
 use mir.Val.{boolByte}
 use borrow.Author.Tests.{lt-ltb, le-ltb}
 use Rattle.simulation.proofs.Sets.{clash}
 use Rattle.simulation.proofs.Search.{lt-or-le}
 use Rattle.bits.specs.Word.{members, word}
 use Rattle.bits.proofs.Bits.{bit-above}
-use Rattle.bits.proofs.Words.{same-members, word-members}
+use Rattle.bits.proofs.Words.{same-members, word-members, part-members}
 use Rattle.listing.specs.Placed.{Placed}
 use Rattle.listing.proofs.Placing.{placed-start, placed-append, placed-one, placed-long}
 use Rattle.frames.specs.Digits.{letter, place, digits}
 use Rattle.frames.specs.Outputs.{complement}
 
--- the low four bits of a number
-low-bit : (y j : ℕ) → j < 4 → (y % 16) / 2 ^ j % 2 ≡ y / 2 ^ j % 2
-low-bit y zero l = omega arith
-low-bit y (suc zero) l = omega arith
-low-bit y (suc (suc zero)) l = omega arith
-low-bit y (suc (suc (suc zero))) l = omega arith
-low-bit y (suc (suc (suc (suc j)))) l = absurd (omega arith)
-
+-- four bits of a number are a digit of it
 pub place-is : (x i : ℕ) → x / 2 ^ (i * 4) % 16 ≡ place x i
 unfolding place
 place-is x i =
@@ -40,7 +32,7 @@ place-is x i =
   where
     near : (j : ℕ) → j < 4 → members (x / 2 ^ (i * 4) % 16) j ≡ (ltb j 4 && members x (i * 4 + j))
     near j l =
-        ap (λ (b : ℕ). eqb b 1) (low-bit (x / 2 ^ (i * 4)) j l ∙ ap (λ (b : ℕ). b % 2) (shr-shr x (i * 4) j))
+        part-members 4 (i * 4) x j l
         ∙ ap (λ (t : Bool). t && members x (i * 4 + j)) (sym (lt-ltb j 4 l))
 
     far : (j : ℕ) → 4 ≤ j → members (x / 2 ^ (i * 4) % 16) j ≡ (ltb j 4 && members x (i * 4 + j))

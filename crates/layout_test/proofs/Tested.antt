@@ -36,7 +36,7 @@ use Rattle.session.specs.Limits.{
 use Rattle.session.specs.Trigger.{Trigger, Graph, Marks, states, nodes, accepts, admits}
 use Rattle.session.specs.Layout.{table, section, markWord, image, part, triggerOf, graphOf, marksOf, below, names, validGraph, validMarks, inLayout, imageFor, marksIn}
 use Rattle.session.specs.Tests.{fits, allNamed, sparse, triggerTest, graphTest, marksTest}
-use Rattle.session.proofs.Tables.{length-table, getD-table, length-section, getD-section, below-take, below-make, fits-gathered}
+use Rattle.session.proofs.Tables.{length-table, getD-table, length-section, getD-section, below-take, fits-gathered, part-below}
 use Rattle.session.proofs.Valid.{TriggerFacts, GraphFacts, graph-facts, marks-facts, marks-valid}
 use Rattle.session.proofs.Image.{inverted-word, mask-word, value-word, link-word, sample-word, edge-word, mark-word}
 use Rattle.session.proofs.Decoded.{marks-take, layout-image, LayoutFacts, layout-whole, layout-facts}
@@ -77,13 +77,6 @@ module _ (xs : List ℕ) (p n : ℕ) where
   part-on d r = rw (← d, ← r, ← drop-drop n p xs) (sym (take-append-drop n (drop p xs)))
 
   -- entries below a bound
-  part-below : (k : ℕ) → p + n ≤ length xs → ((i : ℕ) → i < n → getD xs (p + i) 0 < k) → below k (part xs p n) ≡ true
-  part-below k long h =
-      below-make k (part xs p n)
-      (λ i l.
-      let c : i < n = omega (arith, part-length long) in
-      rw (part-at i c) (h i c))
-
   below-part : (k : ℕ) → p + n ≤ length xs → below k (part xs p n) ≡ true → (i : ℕ) → i < n → getD xs (p + i) 0 < k
   below-part k long h i l =
       subst (λ (x : ℕ). x < k) (part-at i l) (below-take k (part xs p n) h i (omega (arith, part-length long)))

@@ -85,13 +85,14 @@ pub below-make : (n : ℕ) (xs : List ℕ) → ((i : ℕ) → i < length xs → 
 unfolding below
 below-make n xs h = all-make (length xs) (λ i. ltb (getD xs i 0) n) (λ i l. lt-ltb (getD xs i 0) n (h i l))
 
--- of a part of a list too
-pub below-part : (n p k : ℕ) (xs : List ℕ) → below n xs ≡ true → p + k ≤ length xs → below n (take k (drop p xs)) ≡ true
-below-part n p k xs h l =
+-- of a part of a list, by its entries, or by those of the whole list
+pub part-below : (xs : List ℕ) (p k n : ℕ) → p + k ≤ length xs → ((i : ℕ) → i < k → getD xs (p + i) 0 < n) → below n (take k (drop p xs)) ≡ true
+part-below xs p k n long h =
     below-make n (take k (drop p xs))
-    (λ i m.
-    let few : i < k = omega (arith, length-take k (drop p xs)) in
-    rw (getD-take k (drop p xs) i 0 few, getD-drop p xs i 0) (below-take n xs h (p + i) (omega arith)))
+    (λ i m. let few : i < k = omega (arith, length-take k (drop p xs)) in rw (getD-take k (drop p xs) i 0 few, getD-drop p xs i 0) (h i few))
+
+pub whole-below : (xs : List ℕ) (p k n : ℕ) → p + k ≤ length xs → below n xs ≡ true → below n (take k (drop p xs)) ≡ true
+whole-below xs p k n long h = part-below xs p k n long (λ i m. below-take n xs h (p + i) (omega arith))
 
 pub table-below : (n k : ℕ) (f : ℕ → ℕ) → ((i : ℕ) → f i < n) → below n (table k f) ≡ true
 table-below n k f h =

@@ -13,7 +13,7 @@ use Rattle.bits.specs.Word.{members, halfBits}
 use Rattle.session.specs.Limits.{wordBits}
 use Rattle.session.specs.Trigger.{matches}
 use Rattle.session.specs.Tests.{sparse}
-use Rattle.session.proofs.Tables.{below-part}
+use Rattle.session.proofs.Tables.{whole-below}
 use Rattle.section_tests.proofs.Unadmitted.{admitted, admitted-whole, admitted-parts}
 use Rattle.section_tests.proofs.both_admitted.Statement.{statement}
 use Rattle.section_tests.proofs.both_admitted.Tie as tie
@@ -57,7 +57,7 @@ half-admitted-requires-2 c κs =
     let masks = front halfBits (a .masks .now) (omega arith) in
     let values = front halfBits (a .values .now) (omega (arith, s .pre .0 .1)) in (
       (s .pre .0 .0, sym values ∙ masks, omega (arith, masks)),
-      (below-part (2 ^ wordBits) 0 halfBits (a .masks .now) (s .pre .1 .0) (omega arith), ((s .pre .1 .1 .0, omega arith), s .pre .1 .1 .1)),
+      (whole-below (a .masks .now) 0 halfBits (2 ^ wordBits) (omega arith) (s .pre .1 .0), ((s .pre .1 .1 .0, omega arith), s .pre .1 .1 .1)),
     )
 
 -- what the two parts together say
@@ -108,7 +108,7 @@ half-admitted-requires-3 c κs =
     length-take-le (length xs - halfBits) (drop halfBits xs) (omega (arith, length-drop halfBits xs)) in (
       (s .pre .0 .0, rest (a .values .now) ∙ ap (λ (n : ℕ). n - halfBits) (s .pre .0 .1) ∙ sym (rest (a .masks .now)), omega (arith, rest (a .masks .now), s .pre .0 .2)),
       (
-        below-part (2 ^ wordBits) halfBits (length (a .masks .now) - halfBits) (a .masks .now) (s .pre .1 .0) (omega arith),
+        whole-below (a .masks .now) halfBits (length (a .masks .now) - halfBits) (2 ^ wordBits) (omega arith) (s .pre .1 .0),
         ((s .pre .1 .1 .0, omega arith), s .pre .1 .1 .1),
       ),
     )
