@@ -16,3 +16,4 @@ pub mod Steps
 pub mod Demands
 pub mod Told
 pub mod Counted
+pub mod OneMemory

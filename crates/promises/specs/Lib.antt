@@ -6,3 +6,4 @@ pub mod Rules
 pub mod Promises
 pub mod Model
 pub mod Demands
+pub mod OneMemory

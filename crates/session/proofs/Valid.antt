@@ -2,7 +2,7 @@
 use Prim.Native.Nat.{ℕ, _/_, _%_, _^_, _<_, _≤_}
 use native.Mathlib.Omega.{arith}
 use mathlib.Core.Path.{_≡_}
-use mathlib.Core.Logic.{⊎-elim}
+use mathlib.Core.Logic.{⊎-elim, _↔_}
 use mathlib.Core.Bool.{true, false, not, _&&_, _||_}
 use lib.Arith.{digits-div, digits-mod}
 use lib.Dec.{ltb, leb, eqb}
@@ -26,7 +26,7 @@ use Rattle.simulation.proofs.Ordered.{
   length-insert,
   length-remove-le,
 }
-use Rattle.simulation.proofs.Edges.{elem-joins, joins-make, joins-insert, joins-remove}
+use Rattle.simulation.proofs.Edges.{elem-joins, joins-make, same-joins, joins-insert, joins-remove}
 use Rattle.bits.proofs.Words.{members-below}
 use Rattle.session.specs.Limits.{maxStates, maxNodes, maxEdges, wordBits}
 use Rattle.session.specs.Trigger.{Trigger, Graph, Marks, states, nodes, linked, edge, edgeNumber, withEdge, withoutEdge, admits}
@@ -162,6 +162,13 @@ module _ (g : Graph) where
       let a : edgeNumber v w / maxNodes < nodes g = f .starts (edgeNumber v w) (r .1) in
       let b : edgeNumber v w % maxNodes < nodes g = f .ends (edgeNumber v w) (r .1) in
       (rw (digits-div v (r .0)) at a, rw (digits-mod v (r .0)) at b)
+
+-- a valid graph is told by its samples and the set of its edges
+pub same-graph : (g g' : Graph) → GraphFacts g → GraphFacts g' → g .samples ≡ g' .samples
+    → ((v w : ℕ) → (edge g v w ≡ true) ↔ (edge g' v w ≡ true)) → g ≡ g'
+unfolding edge
+same-graph g g' f f' s h =
+    λ i. record { samples = s i; edges = same-joins maxNodes (omega arith) (g .edges) (g' .edges) (f .rising) (f' .rising) h i }
 
 -- ---- one edge more, one edge less
 

@@ -8,7 +8,7 @@ use lib.Dec.{ltb, eqb}
 use lib.ListN.{length, getD}
 use borrow.Author.Tests.{ltb-true, lt-ltb, eqb-true, eq-eqb}
 use mathlib.Core.Path.{_≡_, refl, sym, _∙_, ap, fun-ext}
-use mathlib.Core.Logic.{⊎-elim}
+use mathlib.Core.Logic.{⊎-elim, _↔_}
 use mathlib.Core.Bool.{Bool, true, false, not, _&&_, _||_}
 use mathlib.Core.List.{List}
 use Rattle.simulation.specs.Sets.{Set, In, anyBelow, allBelow}
@@ -20,7 +20,7 @@ use Rattle.simulation.proofs.Sets.{split, clash, refuted, same, and-mak
 use Rattle.simulation.proofs.System.{Met, supported-make, supported-take, reaches-make, reaches-take}
 use Rattle.simulation.proofs.Pattern.{pair-state, pair-node, pair-inside, node-inside, pair-whole, paired-pair, meets-make, met-at, due-at}
 use Rattle.simulation.proofs.Search.{lt-or-le, found-make, found-take}
-use Rattle.simulation.proofs.Ordered.{Rising, elem-at, elem-index, place-le, before-place, place-at, after-place, elem-insert, elem-remove}
+use Rattle.simulation.proofs.Ordered.{Rising, same-elems, elem-at, elem-index, place-le, before-place, place-at, after-place, elem-insert, elem-remove}
 
 positive : (x m k : ℕ) → x < m * k → 0 < k
 positive x m zero h = absurd (omega arith)
@@ -60,6 +60,15 @@ module _ (width : ℕ) where
 
   pub joins-elem : (es : List ℕ) (e : ℕ) → 0 < width → elem e es ≡ true → joins width es (e / width) (e % width) ≡ true
   joins-elem es e l h = joins-make es (e / width) (e % width) (mod-lt e l) (rw (div-add-mod' e width) h)
+
+  -- a set of edges has one ascending list
+  pub same-joins : 0 < width → (xs ys : List ℕ) → Rising xs → Rising ys
+      → ((v w : ℕ) → (joins width xs v w ≡ true) ↔ (joins width ys v w ≡ true)) → xs ≡ ys
+  same-joins some xs ys r s h =
+      same-elems xs ys r s (λ e. same (elem e xs) (elem e ys) (over xs ys e (λ v w. h v w .0)) (over ys xs e (λ v w. h v w .1)))
+    where
+      over : (xs ys : List ℕ) (e : ℕ) → ((v w : ℕ) → joins width xs v w ≡ true → joins width ys v w ≡ true) → elem e xs ≡ true → elem e ys ≡ true
+      over xs ys e h m = rw (div-add-mod' e width) at (elem-joins ys (e / width) (e % width) (h (e / width) (e % width) (joins-elem xs e some m)) .1)
 
   -- ---- one edge more, one edge less
 
