@@ -14,3 +14,4 @@ pub mod Passing
 pub mod Inputs
 pub mod Samples
 pub mod Takes
+pub mod Reaches

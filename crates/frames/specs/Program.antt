@@ -11,6 +11,7 @@ use Rattle.promises.specs.Rules.{Given, givenTrigger, givenGraph, Kind}
 use Rattle.promises.specs.Promises.{loadList}
 use Rattle.promises.specs.Model.{Model, step, editing, loadSummary, editSummary}
 use Rattle.promises.specs.Demands.{Call, Demand2, Demand3, Kept, Faithful}
+use Rattle.promises.specs.OneMemory.{ByCalls}
 use Rattle.frames.specs.declared.Taken.{Taken}
 use Rattle.frames.specs.Frames.{Frame, state, node, run, edit, walk, nothing, frameOf}
 use Rattle.frames.specs.Outputs.{each, refusal, answered}
@@ -130,3 +131,12 @@ Throughout p m (l ∷ ls) =
 pub record Whole (p : Moment) (m : Memory) (ls : List Line) : Type 1 where
   pub prints : each printedBy ls ≡ output p (map frameOf (bytesOf ls))
   pub demands : Throughout p m ls
+
+-- 02, Job 8: in the memory that a line leaves after an accepted run, the session was reached "by the engine's calls alone", so that what is said there
+-- holds of sessions made by frames too. It is proved in proofs/Reaches.
+abbrev pub Reaching : Memory → Type 0
+Reaching m = getD (m .counts) 0 0 ≡ 1 → ByCalls (m .session)
+
+abbrev pub AllReaching : List Line → Type 0
+AllReaching [] = Unit {0}
+AllReaching (l ∷ ls) = Reaching (l .left) × AllReaching ls

@@ -2,7 +2,7 @@
 
 use crate::random::Random;
 use reference::Book;
-use reference::rules::{ROOM, SESSION, STATES};
+use reference::rules::{EDGES, NODES, ROOM, SESSION, STATES};
 use reference::standing::admitted;
 use reference::trigger::bits;
 use std::collections::BTreeSet;
@@ -159,6 +159,64 @@ impl Case {
         }
         case.samples = self.samples.iter().map(|sample| sample | bit(usize::from(*sample))).collect();
         case
+    }
+
+    /// Breaks a rule of the load in one of the ways that it can be broken.
+    pub fn damage(&mut self, random: &mut Random, rule: u8) {
+        let states = self.masks.len();
+        match rule {
+            4 => match random.below(7) {
+                0 => *self = Case { masks: vec![], values: vec![], links: vec![], ..self.clone() },
+                1 => (0..=STATES).for_each(|_| self.state(random.word() as u16, 0, 0)),
+                2 => drop(self.masks.pop()),
+                3 => self.values.push(random.word() as u16),
+                4 => self.links.push(0),
+                // With 32 states there is none to invert that is not there.
+                5 if states < STATES => self.inverted |= 1 << random.between(states, 31),
+                _ => drop(self.links.pop()),
+            },
+            5 => {
+                let bit = random.between(self.masks.len().min(31), 31);
+                if let Some(place) = states.checked_sub(1).map(|last| random.between(0, last))
+                    && let Some(word) = self.links.get_mut(place)
+                {
+                    *word |= 1 << bit;
+                }
+            }
+            6 => self.samples.resize(random.between(NODES + 1, 700), 0),
+            7 => match random.below(3) {
+                0 => self.starts.push(0),
+                1 => self.ends.push(0),
+                _ => {
+                    let long = random.between(EDGES + 1, 2200) as u32;
+                    self.starts = (0..long).map(|i| i / 64).collect();
+                    self.ends = (0..long).map(|i| i % 64).collect();
+                }
+            },
+            8 => {
+                let nodes = self.samples.len() as u32;
+                let most = NODES as u32;
+                let outside = [nodes, nodes + 1, nodes.max(most - 1), nodes.max(most), 1 << 23, u32::MAX];
+                let outside = *random.pick(&outside);
+                let edges = if random.once_in(2) { &mut self.starts } else { &mut self.ends };
+                if let Some(last) = edges.len().checked_sub(1) {
+                    let place = random.between(0, last);
+                    edges[place] = outside;
+                }
+            }
+            _ => {
+                let edges = self.starts.len().min(self.ends.len());
+                if edges >= 2 {
+                    let (one, other) = (random.below(edges), random.below(edges));
+                    if random.once_in(2) {
+                        (self.starts[one], self.ends[one]) = (self.starts[other], self.ends[other]);
+                    } else {
+                        self.starts.swap(one, other);
+                        self.ends.swap(one, other);
+                    }
+                }
+            }
+        }
     }
 }
 

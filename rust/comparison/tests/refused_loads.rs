@@ -6,64 +6,6 @@ use comparison::{Case, Engine, Random, Subject};
 use reference::Book;
 use reference::rules::{EDGES, NODES, ROOM, SESSION, STATES};
 
-/// Breaks a rule of the load in one of the ways that it can be broken.
-fn damage(random: &mut Random, case: &mut Case, rule: u8) {
-    let states = case.masks.len();
-    match rule {
-        4 => match random.below(7) {
-            0 => *case = Case { masks: vec![], values: vec![], links: vec![], ..case.clone() },
-            1 => (0..=STATES).for_each(|_| case.state(random.word() as u16, 0, 0)),
-            2 => drop(case.masks.pop()),
-            3 => case.values.push(random.word() as u16),
-            4 => case.links.push(0),
-            // With 32 states there is none to invert that is not there.
-            5 if states < STATES => case.inverted |= 1 << random.between(states, 31),
-            _ => drop(case.links.pop()),
-        },
-        5 => {
-            let bit = random.between(case.masks.len().min(31), 31);
-            if let Some(place) = states.checked_sub(1).map(|last| random.between(0, last))
-                && let Some(word) = case.links.get_mut(place)
-            {
-                *word |= 1 << bit;
-            }
-        }
-        6 => case.samples.resize(random.between(NODES + 1, 700), 0),
-        7 => match random.below(3) {
-            0 => case.starts.push(0),
-            1 => case.ends.push(0),
-            _ => {
-                let long = random.between(EDGES + 1, 2200) as u32;
-                case.starts = (0..long).map(|i| i / 64).collect();
-                case.ends = (0..long).map(|i| i % 64).collect();
-            }
-        },
-        8 => {
-            let nodes = case.samples.len() as u32;
-            let most = NODES as u32;
-            let outside = [nodes, nodes + 1, nodes.max(most - 1), nodes.max(most), 1 << 23, u32::MAX];
-            let outside = *random.pick(&outside);
-            let edges = if random.once_in(2) { &mut case.starts } else { &mut case.ends };
-            if let Some(last) = edges.len().checked_sub(1) {
-                let place = random.between(0, last);
-                edges[place] = outside;
-            }
-        }
-        _ => {
-            let edges = case.starts.len().min(case.ends.len());
-            if edges >= 2 {
-                let (one, other) = (random.below(edges), random.below(edges));
-                if random.once_in(2) {
-                    (case.starts[one], case.ends[one]) = (case.starts[other], case.ends[other]);
-                } else {
-                    case.starts.swap(one, other);
-                    case.ends.swap(one, other);
-                }
-            }
-        }
-    }
-}
-
 #[test]
 fn the_first_rule_broken_is_answered() {
     let seed = seed("the_first_rule_broken_is_answered");
@@ -81,7 +23,7 @@ fn the_first_rule_broken_is_answered() {
             rules = (4..=9).filter(|_| random.once_in(3)).collect();
         }
         for rule in rules.iter().rev() {
-            damage(&mut random, &mut case, *rule);
+            case.damage(&mut random, *rule);
         }
         let mut lengths = [SESSION + random.below(3), ROOM + random.below(3)];
         if random.once_in(10) {
