@@ -15,6 +15,8 @@
    Nothing else is asked: every number, length and content is tested, and a call that breaks a rule is refused.
 
    A refusal has the number of the first rule broken, in the order of the rules below, and leaves every byte as it was.
+   Two sessions to which these calls alone wrote since a load was accepted, with equal triggers, equal samples and the same edges, are equal in all
+   TRIGGER_SESSION_WORDS words, in whatever order the edges came and went (proved: crates/promises/specs/OneMemory.antt): memcmp compares them.
    No call keeps a pointer, allocates, or uses any memory but the stack (TRIGGER_STACK_BYTES) and what it is given. */
 #ifndef TRIGGER_ENGINE_H
 #define TRIGGER_ENGINE_H

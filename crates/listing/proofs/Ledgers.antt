@@ -5,7 +5,7 @@ use native.Mathlib.Nat.{div-add-mod', mod-lt, eq-or-lt-of-le}
 use native.Mathlib.Omega.{arith}
 use mathlib.Core.Path.{_≡_, refl, sym, _∙_, ap, ap₂}
 use mathlib.Core.Logic.{⊎-elim}
-use mathlib.Core.Bool.{Bool, true, false, not, cond}
+use mathlib.Core.Bool.{Bool, true, false, cond}
 use mathlib.Core.List.{List, [], _∷_, _++_, append-nil}
 use lib.Dec.{ltb, eqb}
 use lib.IntN.{ℤ, pos, negsuc, negℤ, natAbs, subℕ, _-ℤ_}
@@ -16,7 +16,7 @@ use Rattle.simulation.proofs.Pattern.{pair-state, pair-node, pair-inside}
 use Rattle.session.specs.Trigger.{Trigger, Graph, Marks, states, nodes, pattern}
 use Rattle.listing.specs.Changes.{sizeOf, signed, change, joinTo, changes, nodeSpan}
 use Rattle.listing.specs.Ledger.{equal, times, ledger, standing, entries, Alternate}
-use Rattle.listing.proofs.Lists.{change-size}
+use Rattle.listing.proofs.Lists.{change-size, join-none}
 
 -- ---- lists one after the other
 
@@ -91,14 +91,10 @@ join-only f q h (suc k) l =
     ⊎-elim
     (λ (e : suc q ≡ suc k).
     let same : q ≡ k = omega arith in
-    rw (sym same) (ap (λ (x : List ℤ). x ++ f q) (none-before q (λ p m. h p (λ z. absurd (omega arith))))))
+    rw (sym same) (ap (λ (x : List ℤ). x ++ f q) (join-none f q (λ p m. h p (λ z. absurd (omega arith))))))
     (λ (e : suc q < suc k).
     rw (h k (λ z. absurd (omega arith))) (append-nil (joinTo k f) ∙ join-only f q h k (omega arith)))
     (eq-or-lt-of-le l)
-  where
-    none-before : (k : ℕ) → ((p : ℕ) → p < k → f p ≡ []) → joinTo k f ≡ []
-    none-before zero g = refl
-    none-before (suc k) g = rw (g k (omega arith), none-before k (λ p m. g p (omega arith)))
 
 -- "each once": of a pair the list has its change and nothing else
 module _ (t : Trigger) (g : Graph) (before after : Marks) (few : states t ≤ nodeSpan) (u v : ℕ) (l : u < states t) (k : v < nodes g) where

@@ -105,10 +105,10 @@ module _ (f : ℕ → List ℤ) where
   join-short h zero = omega arith
   join-short h (suc n) = omega (arith, length-append (joinTo n f) (f n), join-short h n, h n)
 
-  pub join-none : ((p : ℕ) → f p ≡ []) → (n : ℕ) → joinTo n f ≡ []
+  pub join-none : (n : ℕ) → ((p : ℕ) → p < n → f p ≡ []) → joinTo n f ≡ []
   unfolding joinTo
-  join-none h zero = refl
-  join-none h (suc n) = rw (h n, join-none h n)
+  join-none zero h = refl
+  join-none (suc n) h = rw (h n (omega arith), join-none n (λ p l. h p (omega arith)))
 
 -- ---- the change list of two sets of marks
 
@@ -174,5 +174,5 @@ module _ (t : Trigger) (g : Graph) (before after : Marks) where
 pub changes-none : (t : Trigger) (g : Graph) (m : Marks) → changes t g m m ≡ []
 unfolding changes
 changes-none t g m =
-    join-none (λ p. change (m (p % states t) (p / states t)) (m (p % states t) (p / states t)) (sizeOf (p % states t) (p / states t)))
-    (λ p. change-none (m (p % states t) (p / states t)) (sizeOf (p % states t) (p / states t))) (nodes g * states t)
+    join-none (λ p. change (m (p % states t) (p / states t)) (m (p % states t) (p / states t)) (sizeOf (p % states t) (p / states t))) (nodes g * states t)
+    (λ p l. change-none (m (p % states t) (p / states t)) (sizeOf (p % states t) (p / states t)))

@@ -42,7 +42,7 @@ join-same (suc n) f g h = ap₂ _++_ (join-same n f g (λ u l. h u (omega arith)
 pub node-same : (v n b : ℕ) → nodeChanges v n b b ≡ []
 unfolding nodeChanges
 node-same v n b =
-    join-none (λ u. change (members b u) (members b u) (sizeOf u v)) (λ u. change-none (members b u) (sizeOf u v)) n
+    join-none (λ u. change (members b u) (members b u) (sizeOf u v)) n (λ u l. change-none (members b u) (sizeOf u v))
 
 pub node-short : (v n b a : ℕ) → length (nodeChanges v n b a) ≤ n
 unfolding nodeChanges
@@ -134,8 +134,7 @@ listed n f X = joinTo n (λ u. cond (X u) (f u ∷ []) [])
 
 listed-none : (n : ℕ) (f : ℕ → ℤ) (X : Set) → ((u : ℕ) → u < n → X u ≡ false) → listed n f X ≡ []
 unfolding listed
-listed-none n f X h =
-    join-same n (λ u. cond (X u) (f u ∷ []) []) (λ u. []) (λ u l. rw (h u l)) ∙ join-none (λ u. []) (λ u. refl) n
+listed-none n f X h = join-none (λ u. cond (X u) (f u ∷ []) []) n (λ u l. rw (h u l))
 
 -- the lowest number, then the others
 listed-next : (n : ℕ) (f : ℕ → ℤ) (X : Set) (u : ℕ) → u < n → X u ≡ true → ((i : ℕ) → i < u → X i ≡ false)

@@ -57,6 +57,10 @@ unfolding changes
 edited-changes insertion t g a b before after = refl
 edited-changes deletion t g a b before after = refl
 
+pub edited-samples : (k : Kind) (g : Graph) (a b : ℕ) → edited k g a b .samples ≡ g .samples
+edited-samples insertion g a b = refl
+edited-samples deletion g a b = refl
+
 pub edited-chain : (k : Kind) (t : Trigger) (g : Graph) (a b : ℕ) → GraphFacts g → verdict (graphRules k g a b) ≡ 0
     → (u v : ℕ) → (stands t g u v ≡ stands t (edited k g a b) u v → ⊥)
     → Chain t (holding k g (edited k g a b)) (stands t g) (stands t (edited k g a b)) a u v

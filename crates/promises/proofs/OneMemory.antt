@@ -1,12 +1,10 @@
 -- One graph, one memory, and the ledger of change lists: both from what every call keeps of a faithful session.
 use Prim.Native.Nat.{ℕ, _<_, _≤_}
 use native.Mathlib.Omega.{arith}
-use mathlib.Core.Path.{_≡_, refl, sym, _∙_, ap, ap₂, subst}
-use mathlib.Core.Logic.{⊎-elim}
-use mathlib.Core.Bool.{Bool, true, false, cond}
-use mathlib.Core.List.{List, [], _∷_, _++_}
-use lib.IntN.{ℤ, pos}
-use lib.ListN.{length, take, drop}
+use mathlib.Core.Path.{_≡_, refl, sym, _∙_, ap, ap₂}
+use mathlib.Core.List.{List, [], _++_}
+use lib.IntN.{ℤ}
+use lib.ListN.{take, drop}
 use lib.Seq.{take-append-seam}
 use Rattle.simulation.specs.Ordered.{elem, joins}
 use Rattle.session.specs.Limits.{fixedSize}
@@ -17,17 +15,13 @@ use Rattle.session.proofs.Image.{length-image}
 use Rattle.listing.specs.Changes.{nodeSpan, sizeOf, changes}
 use Rattle.listing.proofs.Lists.{changes-none}
 use Rattle.listing.proofs.Ledgers.{Tells, tells-none, tells-changes, tells-ledger}
-use Rattle.promises.specs.declared.Answer.{Answer}
 use Rattle.promises.specs.Standing.{stands}
-use Rattle.promises.specs.Answers.{told, changesTold, handedBack}
-use Rattle.promises.specs.Rules.{Kind, insertion, deletion, edited, Given, verdict, loadRules}
-use Rattle.promises.specs.Promises.{Loaded, Edited}
-use Rattle.promises.specs.Model.{Model, begun, Edit, modelRules, step}
-use Rattle.promises.specs.Demands.{Call, editOf, Faithful, Kept}
-use Rattle.promises.specs.OneMemory.{Called, edit, refusedLoad, question, ByCalls, load, call, SameEdges, OneMemory, Since, none, more, standsIn, Ledger}
+use Rattle.promises.specs.Answers.{changesTold}
+use Rattle.promises.specs.Model.{Model, begun, step}
+use Rattle.promises.specs.Demands.{Call, editOf, Faithful}
+use Rattle.promises.specs.OneMemory.{Called, edit, refusedLoad, question, ByCalls, load, call, SameEdges, OneMemory, Since, none, more, standsIn, Ledgers}
 use Rattle.promises.proofs.Handed.{handed-none}
-use Rattle.promises.proofs.Verdicts.{accepts-or}
-use Rattle.promises.proofs.Steps.{step-accepted, step-refused, trigger-is, graph-is, holds-trigger, holds-graph, faithful-load}
+use Rattle.promises.proofs.Steps.{step-keeps, trigger-is, graph-is, holds-trigger, holds-graph, faithful-load}
 use Rattle.promises.proofs.Demands.{kept}
 
 -- ---- what every call keeps
@@ -44,22 +38,6 @@ pub record Moved (b : Model) (list : List ℤ) (s' : List ℕ) : Type 0 where
 still : (b : Model) (s : List ℕ) → Faithful b s → Moved b [] s
 still b s f =
     record { model = b; faithful = f; trigger = refl; samples = refl; lists = sym (changes-none (b .trigger) (b .graph) (stands (b .trigger) (b .graph))) }
-
-edited-samples : (k : Kind) (g : Graph) (a b : ℕ) → edited k g a b .samples ≡ g .samples
-edited-samples insertion g a b = refl
-edited-samples deletion g a b = refl
-
--- a step of the model leaves trigger and samples
-step-keeps : (b : Model) (e : Edit) → (step b e .trigger ≡ b .trigger) × (step b e .graph .samples ≡ b .graph .samples)
-step-keeps b e =
-    ⊎-elim
-    (λ ok.
-    let s = step-accepted b e ok in
-    (ap (λ (m : Model). m .trigger) s, ap (λ (m : Model). m .graph .samples) s ∙ edited-samples (e .kind) (b .graph) (e .start) (e .end)))
-    (λ bad.
-    let s = step-refused b e bad in
-    (ap (λ (m : Model). m .trigger) s, ap (λ (m : Model). m .graph .samples) s))
-    (accepts-or (verdict (modelRules b e)))
 
 -- each call by itself: a further one is a clause more
 called-moves : (b : Model) {s : List ℕ} {list : List ℤ} {s' : List ℕ} → Faithful b s → Called s list s' → Moved b list s'
@@ -126,8 +104,8 @@ tells-since b {s} f (more {lists = lists} {s'' = s''} p since) u v l k =
     (standsIn s'' u v) lists
     (tells-since (w .model) (w .faithful) since u v (rw (w .trigger) l) (rw (w .samples) k)))
 
-pub ledger-since : (s : List ℕ) (lists : List ℤ) (s' : List ℕ) → ByCalls s → Since s lists s' → Ledger s lists s'
-ledger-since s lists s' reached since =
+pub ledgers : Ledgers
+ledgers s lists s' reached since =
     let f = by-calls reached in
     let b = f .0 in
     let t = holds-trigger b s (f .1) in

@@ -24,7 +24,7 @@ use Rattle.promises.specs.Demands.{Faithful}
 use Rattle.promises.proofs.Stands.{stands-inside, stands-admitted}
 use Rattle.promises.proofs.Verdicts.{accepts-or, verdict-pass}
 use Rattle.promises.proofs.Loads.{load-trigger, load-graph}
-use Rattle.promises.proofs.Edits.{edited-facts}
+use Rattle.promises.proofs.Edits.{edited-facts, edited-samples}
 
 -- ---- the steps of the model
 
@@ -36,6 +36,18 @@ step-accepted b e ok = rw (eq-eqb (verdict (modelRules b e)) 0 ok)
 pub step-refused : (b : Model) (e : Edit) → (verdict (modelRules b e) ≡ 0 → ⊥) → step b e ≡ b
 unfolding step
 step-refused b e no-ok = rw (ne-eqb (verdict (modelRules b e)) 0 no-ok)
+
+-- either way it leaves trigger and samples
+pub step-keeps : (b : Model) (e : Edit) → (step b e .trigger ≡ b .trigger) × (step b e .graph .samples ≡ b .graph .samples)
+step-keeps b e =
+    ⊎-elim
+    (λ ok.
+    let s = step-accepted b e ok in
+    (ap (λ (m : Model). m .trigger) s, ap (λ (m : Model). m .graph .samples) s ∙ edited-samples (e .kind) (b .graph) (e .start) (e .end)))
+    (λ bad.
+    let s = step-refused b e bad in
+    (ap (λ (m : Model). m .trigger) s, ap (λ (m : Model). m .graph .samples) s))
+    (accepts-or (verdict (modelRules b e)))
 
 pub model-passed : (b : Model) (e : Edit) → verdict (modelRules b e) ≡ 0 → verdict (graphRules (e .kind) (b .graph) (e .start) (e .end)) ≡ 0
 model-passed b e ok = verdict-pass 3 (ltb (e .room) maxChanges) (graphRules (e .kind) (b .graph) (e .start) (e .end)) (omega arith) ok .1

@@ -61,7 +61,6 @@ pub data Since : List ℕ → List ℤ → List ℕ → Type 0 where
 abbrev pub standsIn : List ℕ → Marks
 standsIn s = stands (triggerOf s) (graphOf s)
 
--- from a load on, or from any call after it
 pub record Ledger (s : List ℕ) (lists : List ℤ) (s' : List ℕ) : Type 0 where
   -- "for every pair the additions less the removals listed along any such sequence of edits after a load equal its standing at the end (1 or 0)
   -- less its standing at the beginning"
@@ -70,3 +69,7 @@ pub record Ledger (s : List ℕ) (lists : List ℤ) (s' : List ℕ) : Type 0 whe
   -- and of one pair the signs alternate, from its standing at the beginning on
   pub alternate : (u v : ℕ) → u < states (triggerOf s) → v < nodes (graphOf s)
       → Alternate (standsIn s u v) (sizeOf u v) (entries (sizeOf u v) lists)
+
+-- from a load on, or from any call after it
+abbrev pub Ledgers : Type 0
+Ledgers = (s : List ℕ) (lists : List ℤ) (s' : List ℕ) → ByCalls s → Since s lists s' → Ledger s lists s'

@@ -48,7 +48,8 @@ impl Ledger {
             assert_eq!(self.sums[size], wanted, "{label}: state {state} at node {node}");
             often += usize::from(self.entries[size] > 2);
         }
-        let pairs: BTreeSet<usize> = standing.places().map(|(state, node)| change(state, node, true) as usize).collect();
+        let pairs: BTreeSet<usize> =
+            standing.places().map(|(state, node)| change(state, node, true) as usize).collect();
         let stray = (0..self.entries.len()).find(|size| self.entries[*size] > 0 && !pairs.contains(size));
         assert_eq!(stray, None, "{label}: a change of no pair");
         often
@@ -198,6 +199,13 @@ impl<'a, S: Subject> Way<'a, S> {
         }
     }
 
+    /// Goes by detours; gives the words of the session at the end.
+    fn wander(mut self, detours: usize, target: &Edges) -> Vec<u32> {
+        self.detours(detours);
+        self.go(target);
+        self.end(target)
+    }
+
     /// Compares the ledger and what is past the fixed size; gives the words of the session.
     fn end(self, target: &Edges) -> Vec<u32> {
         assert_eq!(&self.edges, target);
@@ -227,7 +235,7 @@ fn full(random: &mut Random) -> Case {
     Case::random(random, STATES, NODES, EDGES, 3)
 }
 
-/// A ring of states around a closed ring of nodes: no pair stands before the last edge, whichever that is.
+/// A ring of states around a closed ring of nodes: from no edge, no pair stands before the last one is in, whichever that is.
 fn ring(random: &mut Random) -> Case {
     let (states, turns) = *random.pick(&[(1, 1), (1, 9), (2, 3), (3, 5), (16, 2), (17, 1), (STATES, 2)]);
     Case::ring(random, states, turns, true).0
@@ -254,16 +262,12 @@ fn five_ways<S: Subject>(subject: S, run: &mut Run, label: &str, case: &Case, de
     let ascending = way.end(&target);
 
     let words = memory(run);
-    let mut way = Way::load(subject, run, format!("{label}, from no edge"), case, &none, words);
-    way.detours(detours);
-    way.go(&target);
-    let from_none = way.end(&target);
+    let way = Way::load(subject, run, format!("{label}, from no edge"), case, &none, words);
+    let from_none = way.wander(detours, &target);
 
     let words = memory(run);
-    let mut way = Way::load(subject, run, format!("{label}, from other edges"), case, &other, words);
-    way.detours(detours);
-    way.go(&target);
-    let from_others = way.end(&target);
+    let way = Way::load(subject, run, format!("{label}, from other edges"), case, &other, words);
+    let from_others = way.wander(detours, &target);
 
     // Another trigger with a graph and edits of its own, in the same memory before.
     let before = middle(&mut run.random);
@@ -271,10 +275,8 @@ fn five_ways<S: Subject>(subject: S, run: &mut Run, label: &str, case: &Case, de
     let mut way = Way::load(subject, run, format!("{label}, another trigger"), &before, &none, words);
     way.detours(10);
     let words = way.session;
-    let mut way = Way::load(subject, run, format!("{label}, after another trigger"), case, &other, words);
-    way.detours(detours);
-    way.go(&target);
-    let after_another = way.end(&target);
+    let way = Way::load(subject, run, format!("{label}, after another trigger"), case, &other, words);
+    let after_another = way.wander(detours, &target);
 
     let ways = [("ascending", ascending), ("none", from_none), ("others", from_others), ("another", after_another)];
     for (way, words) in ways {
@@ -313,7 +315,7 @@ fn full_graphs() {
     assert!(run.refused[13] > 10, "{:?}", run.refused);
 }
 
-/// Whichever edge comes last, it makes every pair of the ring stand at once.
+/// Rings closed by whichever edge comes last.
 #[test]
 fn rings() {
     ways(Engine, "rings", 200, 0, ring);

@@ -194,7 +194,22 @@ impl Session {
         Ok(states)
     }
 
-    /// The words of the session, in the layout of `docs/LAYOUT.md`.
+    /// The words of the session, in the layout of `docs/LAYOUT.md`. Two sessions with equal triggers, samples and edges have
+    /// equal words, in whatever order the edges came and went.
+    ///
+    /// ```
+    /// # use trigger_engine::{Rule, Session, State};
+    /// let states = [State { mask: 0, value: 0, links: 1, inverted: false }];
+    /// let mut loaded = Session::new();
+    /// loaded.load(&states, &[1, 2], &[(0, 1), (1, 0)])?;
+    /// let mut edited = Session::new();
+    /// edited.load(&states, &[1, 2], &[(1, 1)])?;
+    /// edited.insert(1, 0)?;
+    /// edited.delete(1, 1)?;
+    /// edited.insert(0, 1)?;
+    /// assert_eq!(edited.words(), loaded.words());
+    /// # Ok::<(), Rule>(())
+    /// ```
     pub fn words(&self) -> &[u32] {
         &self.words
     }
