@@ -7,6 +7,7 @@ use lib.Dec.{eqb}
 use lib.IntN.{ℤ, pos, negsuc, natAbs, _-ℤ_}
 use Rattle.listing.specs.Changes.{sizeOf, signed}
 
+-- two integers are the same
 abbrev pub equal : ℤ → ℤ → Bool
 equal (pos a) (pos b) = eqb a b
 equal (negsuc a) (negsuc b) = eqb a b

@@ -44,7 +44,8 @@ abbrev pub SameEdges : Graph → Graph → Type 0
 SameEdges g g' = (v w : ℕ) → (edge g v w ≡ true) ↔ (edge g' v w ≡ true)
 
 -- "two sessions with equal trigger and nodes and the same edge set are equal over the fixed size, however each was reached from its load by the
--- engine's calls alone": in memories of any length, from whatever each held before
+-- engine's calls alone": in memories of any length, from whatever each held before. Trigger, nodes and edges are those that the sessions hold; that
+-- these are the ones given is demand 3.
 abbrev pub OneMemory : Type 0
 OneMemory = (s s' : List ℕ) → ByCalls s → ByCalls s'
     → triggerOf s ≡ triggerOf s' → graphOf s .samples ≡ graphOf s' .samples → SameEdges (graphOf s) (graphOf s')
