@@ -2,16 +2,15 @@
 use Prim.Native.Nat.{ℕ, _<_, _≤_}
 use native.Mathlib.Omega.{arith}
 use mathlib.Core.Path.{_≡_, refl, sym, _∙_, ap, ap₂}
-use mathlib.Core.List.{List, [], _++_}
+use mathlib.Core.List.{List, []}
 use lib.IntN.{ℤ}
 use lib.ListN.{take, drop}
-use lib.Seq.{take-append-seam}
 use Rattle.simulation.specs.Ordered.{elem, joins}
 use Rattle.session.specs.Limits.{fixedSize}
 use Rattle.session.specs.Trigger.{Trigger, Graph, states, nodes, edge, edgeNumber}
 use Rattle.session.specs.Layout.{image, triggerOf, graphOf}
 use Rattle.session.proofs.Valid.{same-graph}
-use Rattle.session.proofs.Image.{length-image}
+use Rattle.session.proofs.Image.{take-image}
 use Rattle.listing.specs.Changes.{nodeSpan, sizeOf, changes}
 use Rattle.listing.proofs.Lists.{changes-none}
 use Rattle.listing.proofs.Ledgers.{Tells, tells-none, tells-changes, tells-ledger}
@@ -65,13 +64,7 @@ same-set g g' h v w = rw (h (edgeNumber v w)) (λ e. e, λ e. e)
 
 -- the words of a faithful session
 fixed-part : (b : Model) (s : List ℕ) → Faithful b s → take fixedSize s ≡ image (b .trigger) (b .graph) (stands (b .trigger) (b .graph))
-fixed-part b s f =
-    let t = b .trigger in
-    let g = b .graph in
-    let words = image t g (stands t g) in
-    ap (take fixedSize) (f .session)
-    ∙ ap (λ (n : ℕ). take n (words ++ drop fixedSize s)) (sym (length-image t g (stands t g)))
-    ∙ take-append-seam words (drop fixedSize s)
+fixed-part b s f = ap (take fixedSize) (f .session) ∙ take-image (b .trigger) (b .graph) (stands (b .trigger) (b .graph)) (drop fixedSize s)
 
 pub one-memory : OneMemory
 one-memory s s' reached reached' triggers samples edges =
