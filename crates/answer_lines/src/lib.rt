@@ -1,7 +1,7 @@
 // Answers as lines of an output.
 ghost use Rattle.std.specs.Prelude.{◌≡◌, [], ◌∷◌, ◌++◌, ◌+◌, ◌*◌, ◌<◌, ◌≤◌, length};
 ghost use Rattle.listing.specs.Placed.{Placed};
-ghost use Rattle.promises.specs.Answers.{told, handedBack};
+ghost use Rattle.promises.specs.Answers.{told, handed_back};
 ghost use Rattle.frames.specs.Digits as d;
 ghost use Rattle.frames.specs.Outputs as o;
 
@@ -119,8 +119,8 @@ pub fn put_order(out: &mut [u8], at: usize, states: &[u8]) -> usize
 
 // Writes the lines of an answer with the changes of a room.
 pub fn put_answer(out: &mut [u8], answer: Answer, room: &[i32]) -> usize
-    requires { o.reportSize + o.changeSize * length (handedBack room.now answer) ≤ length out.old }
-    ensures { Placed out.old 0 (o.answered (told answer) (handedBack room.now answer)) out.new result }
+    requires { o.reportSize + o.changeSize * length (handed_back room.now answer) ≤ length out.old }
+    ensures { Placed out.old 0 (o.answered (told answer) (handed_back room.now answer)) out.new result }
 {
     match answer {
         Answer::Accepted(report) => {

@@ -7,21 +7,21 @@ use mathlib.Core.List.{List, [], ◌++◌}
 use lib.Dec.{ltb, eqb}
 use lib.ListN.{length, drop}
 use borrow.Author.Tests.{lt-ltb, le-ltb, ne_eqb}
-use Rattle.session.specs.Limits.{maxStates}
+use Rattle.session.specs.Limits.{max_states}
 use Rattle.session.specs.Trigger.{states}
-use Rattle.session.specs.Layout.{section, triggerOf}
-use Rattle.session.proofs.Tables.{table_same, getD-section}
+use Rattle.session.specs.Layout.{section, trigger_of}
+use Rattle.session.proofs.Tables.{table_same, get_or-section}
 use Rattle.listing.specs.Order.{order}
 use Rattle.promises.specs.declared.StateOrder.{StateOrder}
-use Rattle.promises.specs.Answers.{accepted, refused, outcome, toldOrder}
-use Rattle.promises.specs.Rules.{verdict, questionRules}
+use Rattle.promises.specs.Answers.{accepted, refused, outcome, told_order}
+use Rattle.promises.specs.Rules.{verdict, question_rules}
 use Rattle.promises.specs.Promises.{Ordered}
-use Rattle.promises.proofs.Verdicts.{verdict-skip, row-broken}
-use Rattle.answer_numbers.specs.Packed.{packedCount, orderNumber, orderRules, OrderWritten}
+use Rattle.promises.proofs.Verdicts.{verdict_skip, row-broken}
+use Rattle.answer_numbers.specs.Packed.{packed_count, order_number, order_rules, OrderWritten}
 
-section-twice : (n : ℕ) (xs : List ℕ) → section n (section n xs) ≡ section n xs
+section_twice : (n : ℕ) (xs : List ℕ) → section n (section n xs) ≡ section n xs
 unfolding section
-section-twice n xs = table_same n _ _ (λ i l. getD-section n xs i l)
+section_twice n xs = table_same n _ _ (λ i l. get_or-section n xs i l)
 
 -- an outcome is accepted only where no rule is broken, and refused only where one is
 accepted-passed : {A : Type 0} (n : ℕ) (a b : A) → outcome n a ≡ accepted b → n ≡ 0
@@ -32,38 +32,38 @@ refused-broken : {A : Type 0} (n m : ℕ) (a : A) → outcome n a ≡ refused m 
 refused-broken n m a e z = let w : ◌≡◌ {A = ℕ} 0 1 = cc (e, ap (λ (k : ℕ). outcome k a) z) in omega arith
 
 module _ (s places : List ℕ) where
-  pub order-short : length places < maxStates → OrderWritten s places 3 places
+  pub order-short : length places < max_states → OrderWritten s places 3 places
   order-short l =
-      let e : 3 ≡ verdict (orderRules s places) = row-broken 3 (ltb (length places) maxStates) _ (questionRules s []) refl (lt-ltb (length places) maxStates l) in
+      let e : 3 ≡ verdict (order_rules s places) = row-broken 3 (ltb (length places) max_states) _ (question_rules s []) refl (lt-ltb (length places) max_states l) in
       record {
-        answer = ap (λ (v : ℕ). packedCount (outcome v (states (triggerOf s)))) e;
-        written = ap (λ (v : ℕ). cond (eqb v 0) (section maxStates (order (triggerOf s)) ++ drop maxStates places) places) e;
+        answer = ap (λ (v : ℕ). packed_count (outcome v (states (trigger_of s)))) e;
+        written = ap (λ (v : ℕ). cond (eqb v 0) (section max_states (order (trigger_of s)) ++ drop max_states places) places) e;
       }
 
-  module _ (long : maxStates ≤ length places) (r : StateOrder) (p : Ordered s r) (w : ℕ) (e : w ≡ orderNumber r.answer) where
+  module _ (long : max_states ≤ length places) (r : StateOrder) (p : Ordered s r) (w : ℕ) (e : w ≡ order_number r.answer) where
     abbrev asked : ℕ
-    asked = verdict (questionRules s [])
+    asked = verdict (question_rules s [])
 
-    same : verdict (orderRules s places) ≡ asked
-    same = verdict-skip 3 (ltb (length places) maxStates) (questionRules s []) (le-ltb (length places) maxStates long)
+    same : verdict (order_rules s places) ≡ asked
+    same = verdict_skip 3 (ltb (length places) max_states) (question_rules s []) (le-ltb (length places) max_states long)
 
-    number : w ≡ packedCount (outcome (verdict (orderRules s places)) (states (triggerOf s)))
-    number = e ∙ ap packedCount p.answer ∙ sym (ap (λ (v : ℕ). packedCount (outcome v (states (triggerOf s)))) same)
+    number : w ≡ packed_count (outcome (verdict (order_rules s places)) (states (trigger_of s)))
+    number = e ∙ ap packed_count p.answer ∙ sym (ap (λ (v : ℕ). packed_count (outcome v (states (trigger_of s)))) same)
 
-    pub order-listed : (n : ℕ) (places' : List ℕ) → toldOrder r.answer ≡ accepted n → places' ≡ section maxStates r.states ++ drop maxStates places
+    pub order-listed : (n : ℕ) (places' : List ℕ) → told_order r.answer ≡ accepted n → places' ≡ section max_states r.states ++ drop max_states places
         → OrderWritten s places w places'
     order-listed n places' a h =
-        let z : asked ≡ 0 = accepted-passed asked (states (triggerOf s)) n (sym p.answer ∙ a) in
+        let z : asked ≡ 0 = accepted-passed asked (states (trigger_of s)) n (sym p.answer ∙ a) in
         record {
           answer = number;
           written =
               rw (same, z)
-              (h ∙ ap (λ (l : List ℕ). section maxStates l ++ drop maxStates places) p.states
-              ∙ ap (λ (l : List ℕ). l ++ drop maxStates places) (section-twice maxStates (cond (eqb asked 0) (order (triggerOf s)) []))
-              ∙ ap (λ (v : ℕ). section maxStates (cond (eqb v 0) (order (triggerOf s)) []) ++ drop maxStates places) z);
+              (h ∙ ap (λ (l : List ℕ). section max_states l ++ drop max_states places) p.states
+              ∙ ap (λ (l : List ℕ). l ++ drop max_states places) (section_twice max_states (cond (eqb asked 0) (order (trigger_of s)) []))
+              ∙ ap (λ (v : ℕ). section max_states (cond (eqb v 0) (order (trigger_of s)) []) ++ drop max_states places) z);
         }
 
-    pub order-refused : (n : ℕ) → toldOrder r.answer ≡ refused n → OrderWritten s places w places
+    pub order-refused : (n : ℕ) → told_order r.answer ≡ refused n → OrderWritten s places w places
     order-refused n a =
-        let bad : asked ≡ 0 → ⊥ = refused-broken asked n (states (triggerOf s)) (sym p.answer ∙ a) in
+        let bad : asked ≡ 0 → ⊥ = refused-broken asked n (states (trigger_of s)) (sym p.answer ∙ a) in
         record { answer = number; written = rw (same, ne_eqb asked 0 bad) refl }

@@ -1,6 +1,6 @@
 // An answer as one number.
 ghost use Rattle.std.specs.Prelude.{◌≡◌, ◌++◌, ◌≤◌, length, drop};
-ghost use Rattle.session.specs.Limits.{maxStates};
+ghost use Rattle.session.specs.Limits.{max_states};
 ghost use Rattle.session.specs.Layout.{section};
 ghost use Rattle.answer_numbers.specs.Packed as p;
 
@@ -70,8 +70,8 @@ pub fn order_number(answer: OrderAnswer) -> u64
 
 // Copies the places of an order to the front.
 pub fn fill_front(places: &mut [u8], order: &[u8; session::MAX_STATES])
-    requires { maxStates ≤ length places.old }
-    ensures { places.new ≡ section maxStates order.now ++ drop maxStates places.old }
+    requires { max_states ≤ length places.old }
+    ensures { places.new ≡ section max_states order.now ++ drop max_states places.old }
 {
     let mut i = 0;
     while i < session::MAX_STATES {

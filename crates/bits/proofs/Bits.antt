@@ -17,12 +17,12 @@ bit-zero w = ap (λ (x : ℕ). x % 2) (div-one w)
 pub bit-suc : (w i : ℕ) → bit w (suc i) ≡ bit (w / 2) i
 bit-suc w i = ap (λ (x : ℕ). x % 2) (sym (shr-shr w 1 i ∙ ap (λ (x : ℕ). w / 2 ^ x) (one-add i)))
 
-pub bit-of-zero : (i : ℕ) → bit 0 i ≡ 0
-bit-of-zero i = ap (λ (x : ℕ). x % 2) (zero-div (2 ^ i))
+pub bit_of_zero : (i : ℕ) → bit 0 i ≡ 0
+bit_of_zero i = ap (λ (x : ℕ). x % 2) (zero-div (2 ^ i))
 
 -- a word of k bits has no bit from k on
-pub bit-above : (k w i : ℕ) → w < 2 ^ k → k ≤ i → bit w i ≡ 0
-bit-above k w i h l = ap (λ (x : ℕ). x % 2) (div-eq_of_lt (lt_of_lt_of_le h (pow_mono l)))
+pub bit_above : (k w i : ℕ) → w < 2 ^ k → k ≤ i → bit w i ≡ 0
+bit_above k w i h l = ap (λ (x : ℕ). x % 2) (div-eq_of_lt (lt_of_lt_of_le h (pow_mono l)))
 
 -- two words of k bits with the same bits are equal
 pub same_bits : (k a b : ℕ) → a < 2 ^ k → b < 2 ^ k → ((i : ℕ) → i < k → bit a i ≡ bit b i) → a ≡ b
@@ -46,16 +46,16 @@ low_and x y =
 low_or : (x y : ℕ) → bit_or x y % 2 ≡ max (x % 2) (y % 2)
 low_or x y = ap (λ (n : ℕ). n % 2) (or_step x y) ∙ digits_mod (bit_or (x / 2) (y / 2)) (omega arith)
 
-differ-lt : (x y : ℕ) → x < 2 → y < 2 → differ x y < 2
-differ-lt zero y hx hy = hy
-differ-lt (suc zero) zero hx hy = hx
-differ-lt (suc zero) (suc y) hx hy = omega arith
-differ-lt (suc (suc x)) y hx hy = absurd (omega arith)
+differ_lt : (x y : ℕ) → x < 2 → y < 2 → differ x y < 2
+differ_lt zero y hx hy = hy
+differ_lt (suc zero) zero hx hy = hx
+differ_lt (suc zero) (suc y) hx hy = omega arith
+differ_lt (suc (suc x)) y hx hy = absurd (omega arith)
 
-low-xor : (x y : ℕ) → bit_xor x y % 2 ≡ differ (x % 2) (y % 2)
-low-xor x y =
+low_xor : (x y : ℕ) → bit_xor x y % 2 ≡ differ (x % 2) (y % 2)
+low_xor x y =
     ap (λ (n : ℕ). n % 2) (xor_step x y)
-    ∙ digits_mod (bit_xor (x / 2) (y / 2)) (differ-lt (x % 2) (y % 2) (omega arith) (omega arith))
+    ∙ digits_mod (bit_xor (x / 2) (y / 2)) (differ_lt (x % 2) (y % 2) (omega arith) (omega arith))
 
 pub and-bit : (a b i : ℕ) → bit (bit_and a b) i ≡ min (bit a i) (bit b i)
 and-bit a b i = ap (λ (n : ℕ). n % 2) (and_shr a b i) ∙ low_and (a / 2 ^ i) (b / 2 ^ i)
@@ -63,8 +63,8 @@ and-bit a b i = ap (λ (n : ℕ). n % 2) (and_shr a b i) ∙ low_and (a / 2 ^ i)
 pub or-bit : (a b i : ℕ) → bit (bit_or a b) i ≡ max (bit a i) (bit b i)
 or-bit a b i = ap (λ (n : ℕ). n % 2) (or_shr a b i) ∙ low_or (a / 2 ^ i) (b / 2 ^ i)
 
-pub xor-bit : (a b i : ℕ) → bit (bit_xor a b) i ≡ differ (bit a i) (bit b i)
-xor-bit a b i = ap (λ (n : ℕ). n % 2) (xor_shr a b i) ∙ low-xor (a / 2 ^ i) (b / 2 ^ i)
+pub xor_bit : (a b i : ℕ) → bit (bit_xor a b) i ≡ differ (bit a i) (bit b i)
+xor_bit a b i = ap (λ (n : ℕ). n % 2) (xor_shr a b i) ∙ low_xor (a / 2 ^ i) (b / 2 ^ i)
 
 -- ---- the bits of a power of two
 
@@ -75,17 +75,17 @@ pub pow-same : (i : ℕ) → bit (2 ^ i) i ≡ 1
 pow-same zero = refl
 pow-same (suc i) = bit-suc (2 ^ suc i) i ∙ ap (λ (x : ℕ). bit x i) (pow-half i) ∙ pow-same i
 
-pub pow-other : (j i : ℕ) → (i ≡ j → ⊥) → bit (2 ^ j) i ≡ 0
-pow-other zero zero h = absurd (h refl)
-pow-other zero (suc i) h = bit-suc 1 i ∙ bit-of-zero i
-pow-other (suc j) zero h = bit-zero (2 ^ suc j) ∙ omega (arith, pow-suc 2 j)
-pow-other (suc j) (suc i) h =
-    bit-suc (2 ^ suc j) i ∙ ap (λ (x : ℕ). bit x i) (pow-half j) ∙ pow-other j i (λ e. h (ap suc e))
+pub pow_other : (j i : ℕ) → (i ≡ j → ⊥) → bit (2 ^ j) i ≡ 0
+pow_other zero zero h = absurd (h refl)
+pow_other zero (suc i) h = bit-suc 1 i ∙ bit_of_zero i
+pow_other (suc j) zero h = bit-zero (2 ^ suc j) ∙ omega (arith, pow-suc 2 j)
+pow_other (suc j) (suc i) h =
+    bit-suc (2 ^ suc j) i ∙ ap (λ (x : ℕ). bit x i) (pow-half j) ∙ pow_other j i (λ e. h (ap suc e))
 
 -- ---- the complement within k bits: the bit and its own add up to 1
 
-odd-not : (p a : ℕ) → a < p * 2 → (p * 2 - 1 - a) % 2 + a % 2 ≡ 1
-odd-not p a h = omega arith
+odd_not : (p a : ℕ) → a < p * 2 → (p * 2 - 1 - a) % 2 + a % 2 ≡ 1
+odd_not p a h = omega arith
 
 half-not : (p a : ℕ) → a < p * 2 → (p * 2 - 1 - a) / 2 ≡ p - 1 - a / 2
 half-not p a h = omega arith
@@ -95,7 +95,7 @@ not-bit zero a i ha h = absurd (omega arith)
 not-bit (suc k) a zero ha h =
     let ha' : a < 2 ^ k * 2 = rw pow-suc at ha in
     ap₂ ◌+◌ (bit-zero (2 ^ suc k - 1 - a) ∙ ap (λ (x : ℕ). (x - 1 - a) % 2) (pow-suc 2 k)) (bit-zero a)
-    ∙ odd-not (2 ^ k) a ha'
+    ∙ odd_not (2 ^ k) a ha'
 not-bit (suc k) a (suc i) ha h =
     let half : (2 ^ suc k - 1 - a) / 2 ≡ 2 ^ k - 1 - a / 2 = rw pow-suc (half-not (2 ^ k) a (rw pow-suc at ha)) in
     omega (

@@ -11,14 +11,14 @@ use lib.Dec.{eqb}
 use borrow.Author.Tests.{eqb-true, eqb-false, eq-eqb, ne_eqb}
 use Rattle.simulation.specs.Sets.{Set, without, count}
 use Rattle.simulation.proofs.Sets.{same}
-use Rattle.simulation.proofs.Loops.{count_same, count-beyond}
+use Rattle.simulation.proofs.Loops.{count_same, count_beyond}
 use Rattle.bits.specs.Word.{bit, members}
 use Rattle.bits.proofs.Bits.{bit-zero, bit-suc}
-use Rattle.bits.proofs.Words.{bit-member, members-below, and-members}
+use Rattle.bits.proofs.Words.{bit_member, members-below, and-members}
 
 -- a wider range counts the same members of a word of k bits
-pub count-wider : (k j w : ℕ) → w < 2 ^ k → k ≤ j → count j (members w) ≡ count k (members w)
-count-wider k j w h l = count-beyond k j (members w) (members-below k w h) l
+pub count_wider : (k j w : ℕ) → w < 2 ^ k → k ≤ j → count j (members w) ≡ count k (members w)
+count_wider k j w h l = count_beyond k j (members w) (members-below k w h) l
 
 -- ---- the counts of a word's digits
 
@@ -33,13 +33,13 @@ count_low zero X = refl
 count_low (suc n) X = omega (arith, count_low n X)
 
 -- how many digits are set
-pub ones-count : (k w : ℕ) → w < 2 ^ k → ones w ≡ count k (members w)
+pub ones_count : (k w : ℕ) → w < 2 ^ k → ones w ≡ count k (members w)
 unfolding count ones ones_in
-ones-count zero w h = ap ones (lt-one h)
-ones-count (suc k) w h =
+ones_count zero w h = ap ones (lt-one h)
+ones_count (suc k) w h =
     ones_step w
-    ∙ ap₂ ◌+◌ (sym (bit-zero w) ∙ bit-member w 0)
-    (ones-count k (w / 2) (omega (arith, pow-suc 2 k))
+    ∙ ap₂ ◌+◌ (sym (bit-zero w) ∙ bit_member w 0)
+    (ones_count k (w / 2) (omega (arith, pow-suc 2 k))
     ∙ count_same k (members (w / 2)) (λ i. members w (suc i)) (λ i l. sym (half-members w i)))
     ∙ sym (count_low k (members w))
 
@@ -52,10 +52,10 @@ under-lowest w t e h zero l = ap (λ (x : ℕ). eqb x 1) (bit-zero w ∙ e)
 under-lowest w t e h (suc i) l = half-members w i ∙ h i (omega arith)
 
 -- as many digits are below the lowest member as the word has zeros at its end
-pub trailing-lowest : (k w : ℕ) → w < 2 ^ k → (w ≡ 0 → ⊥) → Lowest k w (count_trailing_zeros k w)
+pub trailing_lowest : (k w : ℕ) → w < 2 ^ k → (w ≡ 0 → ⊥) → Lowest k w (count_trailing_zeros k w)
 unfolding count_trailing_zeros
-trailing-lowest zero w h some = absurd (some (lt-one h))
-trailing-lowest (suc k) w h some = by (w % 2) refl (λ rest. trailing-lowest k (w / 2) (omega (arith, pow-suc 2 k)) rest)
+trailing_lowest zero w h some = absurd (some (lt-one h))
+trailing_lowest (suc k) w h some = by (w % 2) refl (λ rest. trailing_lowest k (w / 2) (omega (arith, pow-suc 2 k)) rest)
   where
     by : (d : ℕ) → w % 2 ≡ d → ((w / 2 ≡ 0 → ⊥) → Lowest k (w / 2) (count_trailing_zeros k (w / 2)))
         → Lowest (suc k) w (under d (count_trailing_zeros k (w / 2)))

@@ -9,57 +9,57 @@ use lib.Bits.{bit_or}
 use lib.Dec.{ltb, eqb}
 use lib.ListN.{length, get_or}
 use borrow.Author.Tests.{ltb-true, lt-ltb, eqb-true, eq-eqb}
-use Rattle.simulation.specs.Sets.{Set, In, anyBelow, all_below}
-use Rattle.simulation.proofs.Sets.{clash, same, refuted, any-make, any-take, all-make, all_take, implies-make, implies-take}
+use Rattle.simulation.specs.Sets.{Set, In, any_below, all_below}
+use Rattle.simulation.proofs.Sets.{clash, same, refuted, any_make, any_take, all_make, all_take, implies_make, implies_take}
 use Rattle.bits.specs.Word.{members, within}
 use Rattle.bits.proofs.Words.{zero-members, members-below, below-members, same-members, or-members, full-members}
 
 -- ---- the members of n sets together, gathered one by one
 
 abbrev pub gathers : ℕ → (ℕ → Set) → Set
-gathers n X i = anyBelow n (λ k. X k i)
+gathers n X i = any_below n (λ k. X k i)
 
 module _ (X : ℕ → Set) where
   pub gather_none : members 0 ≡ gathers 0 X
-  unfolding anyBelow
+  unfolding any_below
   gather_none = fun_ext zero-members
 
-  pub gather-more : (all w k : ℕ) → members all ≡ gathers k X → members w ≡ X k → members (bit_or all w) ≡ gathers (k + 1) X
-  unfolding anyBelow
-  gather-more all w k e h =
+  pub gather_more : (all w k : ℕ) → members all ≡ gathers k X → members w ≡ X k → members (bit_or all w) ≡ gathers (k + 1) X
+  unfolding any_below
+  gather_more all w k e h =
       or-members all w
       ∙ fun_ext
       (λ i.
       or_comm (members all i) (members w i)
       ∙ ap₂ (λ (Y Z : Set). Y i || Z i) h e
-      ∙ ap (λ (n : ℕ). anyBelow n (λ k. X k i)) (sym (add-one k)))
+      ∙ ap (λ (n : ℕ). any_below n (λ k. X k i)) (sym (add-one k)))
 
-  pub gather-pass : (all k : ℕ) → members all ≡ gathers k X → ((i : ℕ) → X k i ≡ false) → members all ≡ gathers (k + 1) X
-  unfolding anyBelow
-  gather-pass all k e h =
+  pub gather_pass : (all k : ℕ) → members all ≡ gathers k X → ((i : ℕ) → X k i ≡ false) → members all ≡ gathers (k + 1) X
+  unfolding any_below
+  gather_pass all k e h =
       e
       ∙ fun_ext
       (λ i.
-      ap (λ (t : Bool). t || anyBelow k (λ k. X k i)) (sym (h i))
-      ∙ ap (λ (n : ℕ). anyBelow n (λ k. X k i)) (sym (add-one k)))
+      ap (λ (t : Bool). t || any_below k (λ k. X k i)) (sym (h i))
+      ∙ ap (λ (n : ℕ). any_below n (λ k. X k i)) (sym (add-one k)))
 
 -- ---- the members of the words of a list
 
 module _ (g : ℕ) (xs : List ℕ) (e : members g ≡ gathers (length xs) (λ k. members (get_or xs k 0))) where
   -- those of each are among them
   each : (q : ℕ) → q < length xs → (i : ℕ) → In (members (get_or xs q 0)) i → In (members g) i
-  each q l i m = ap (λ (X : Set). X i) e ∙ any-make (length xs) (λ k. members (get_or xs k 0) i) q l m
+  each q l i m = ap (λ (X : Set). X i) e ∙ any_make (length xs) (λ k. members (get_or xs k 0) i) q l m
 
   some : (i : ℕ) → In (members g) i → (q : ℕ) × (q < length xs) × In (members (get_or xs q 0)) i
-  some i m = any-take (length xs) (λ k. members (get_or xs k 0) i) (ap (λ (X : Set). X i) (sym e) ∙ m)
+  some i m = any_take (length xs) (λ k. members (get_or xs k 0) i) (ap (λ (X : Set). X i) (sym e) ∙ m)
 
   -- all of them are below k just where each word has k bits
-  pub gathered-below : (n k : ℕ) → g < 2 ^ n → within n g (2 ^ k - 1) ≡ all_below (length xs) (λ q. ltb (get_or xs q 0) (2 ^ k))
+  pub gathered_below : (n k : ℕ) → g < 2 ^ n → within n g (2 ^ k - 1) ≡ all_below (length xs) (λ q. ltb (get_or xs q 0) (2 ^ k))
   unfolding within
-  gathered-below n k h =
+  gathered_below n k h =
       same (within n g (2 ^ k - 1)) (all_below (length xs) fit)
       (λ a.
-      all-make (length xs) fit
+      all_make (length xs) fit
       (λ q l.
       lt-ltb (get_or xs q 0) (2 ^ k)
       (below-members k (get_or xs q 0)
@@ -67,11 +67,11 @@ module _ (g : ℕ) (xs : List ℕ) (e : members g ≡ gathers (length xs) (λ k.
       let inside = each q l i m in
       ltb-true i k
       (sym (full i)
-      ∙ implies-take (members g i) (members (2 ^ k - 1) i) (all_take n held a i (members-below n g h i inside)) inside)))))
+      ∙ implies_take (members g i) (members (2 ^ k - 1) i) (all_take n held a i (members-below n g h i inside)) inside)))))
       (λ a.
-      all-make n held
+      all_make n held
       (λ i l.
-      implies-make (members g i) (members (2 ^ k - 1) i)
+      implies_make (members g i) (members (2 ^ k - 1) i)
       (λ m.
       let r = some i m in
       full i
@@ -89,11 +89,11 @@ module _ (g : ℕ) (xs : List ℕ) (e : members g ≡ gathers (length xs) (λ k.
       full i = ap (λ (X : Set). X i) (full-members k)
 
   -- there are none just where each word is zero
-  pub gathered-zero : eqb g 0 ≡ all_below (length xs) (λ q. ltb (get_or xs q 0) 1)
-  gathered-zero =
+  pub gathered_zero : eqb g 0 ≡ all_below (length xs) (λ q. ltb (get_or xs q 0) 1)
+  gathered_zero =
       same (eqb g 0) (all_below (length xs) fit)
       (λ a.
-      all-make (length xs) fit
+      all_make (length xs) fit
       (λ q l.
       lt-ltb (get_or xs q 0) 1
       (below-members 0 (get_or xs q 0)

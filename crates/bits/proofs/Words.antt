@@ -12,25 +12,25 @@ use borrow.Author.Tests.{eqb-true, eqb-false, eq-eqb, ltb-true, ltb-false, lt-lt
 use Rattle.simulation.specs.Sets.{Set, In, union, minus, also, without}
 use Rattle.simulation.proofs.Sets.{clash, split, same}
 use Rattle.bits.specs.Word.{bit, members, word}
-use Rattle.bits.proofs.Bits.{bit-of-zero, bit-above, same_bits, and-bit, or-bit, xor-bit, pow-same, pow-other, not-bit}
+use Rattle.bits.proofs.Bits.{bit_of_zero, bit_above, same_bits, and-bit, or-bit, xor_bit, pow-same, pow_other, not-bit}
 
 -- a bit is 1 for a member, and 0 for any other number
-pub bit-member : (w i : ℕ) → bit w i ≡ cond (members w i) 1 0
-bit-member w i =
+pub bit_member : (w i : ℕ) → bit w i ≡ cond (members w i) 1 0
+bit_member w i =
     ⊎_elim
     (λ (e : members w i ≡ true). rw e (eqb-true (bit w i) 1 e))
     (λ (e : members w i ≡ false). let n = eqb-false (bit w i) 1 e in rw e (omega arith))
     (split (members w i))
 
 pub zero-members : (i : ℕ) → members 0 i ≡ false
-zero-members i = ap (λ (x : ℕ). eqb x 1) (bit-of-zero i)
+zero-members i = ap (λ (x : ℕ). eqb x 1) (bit_of_zero i)
 
 -- the members of a word of k bits are below k (`below-members` is the converse)
 pub members-below : (k w : ℕ) → w < 2 ^ k → (i : ℕ) → In (members w) i → i < k
 members-below k w h i m =
     ⊎_elim
     (λ e. ltb-true i k e)
-    (λ e. clash m (ap (λ (x : ℕ). eqb x 1) (bit-above k w i h (ltb-false i k e))))
+    (λ e. clash m (ap (λ (x : ℕ). eqb x 1) (bit_above k w i h (ltb-false i k e))))
     (split (ltb i k))
 
 -- ---- equality: two words with the same members are equal, at k bits and at any width
@@ -38,7 +38,7 @@ members-below k w h i m =
 pub same-below : (k a b : ℕ) → a < 2 ^ k → b < 2 ^ k → ((i : ℕ) → i < k → members a i ≡ members b i) → a ≡ b
 same-below k a b ha hb h =
     same_bits k a b ha hb
-    (λ i l. bit-member a i ∙ ap (λ (t : Bool). cond t 1 0) (h i l) ∙ sym (bit-member b i))
+    (λ i l. bit_member a i ∙ ap (λ (t : Bool). cond t 1 0) (h i l) ∙ sym (bit_member b i))
 
 pub lt-pow : (n : ℕ) → n < 2 ^ n
 lt-pow zero = omega arith
@@ -65,15 +65,15 @@ or-digit true false = refl
 or-digit false true = refl
 or-digit false false = refl
 
-xor-digit : (p q : Bool) → eqb (differ (cond p 1 0) (cond q 1 0)) 1 ≡ not (eqb (cond p 1 0) (cond q 1 0))
-xor-digit true true = refl
-xor-digit true false = refl
-xor-digit false true = refl
-xor-digit false false = refl
+xor_digit : (p q : Bool) → eqb (differ (cond p 1 0) (cond q 1 0)) 1 ≡ not (eqb (cond p 1 0) (cond q 1 0))
+xor_digit true true = refl
+xor_digit true false = refl
+xor_digit false true = refl
+xor_digit false false = refl
 
 pub and-members : (a b i : ℕ) → members (bit_and a b) i ≡ (members a i && members b i)
 and-members a b i =
-    ap (λ (x : ℕ). eqb x 1) (and-bit a b i ∙ ap₂ min (bit-member a i) (bit-member b i))
+    ap (λ (x : ℕ). eqb x 1) (and-bit a b i ∙ ap₂ min (bit_member a i) (bit_member b i))
     ∙ and-digit (members a i) (members b i)
 
 -- what is masked already
@@ -96,21 +96,21 @@ pub or-members : (a b : ℕ) → members (bit_or a b) ≡ union (members a) (mem
 or-members a b =
     fun_ext
     (λ i.
-    ap (λ (x : ℕ). eqb x 1) (or-bit a b i ∙ ap₂ max (bit-member a i) (bit-member b i))
+    ap (λ (x : ℕ). eqb x 1) (or-bit a b i ∙ ap₂ max (bit_member a i) (bit_member b i))
     ∙ or-digit (members a i) (members b i))
 
-pub xor-members : (a b i : ℕ) → members (bit_xor a b) i ≡ not (eqb (bit a i) (bit b i))
-xor-members a b i =
-    ap (λ (x : ℕ). eqb x 1) (xor-bit a b i ∙ ap₂ differ (bit-member a i) (bit-member b i))
-    ∙ xor-digit (members a i) (members b i)
-    ∙ ap₂ (λ (x y : ℕ). not (eqb x y)) (sym (bit-member a i)) (sym (bit-member b i))
+pub xor_members : (a b i : ℕ) → members (bit_xor a b) i ≡ not (eqb (bit a i) (bit b i))
+xor_members a b i =
+    ap (λ (x : ℕ). eqb x 1) (xor_bit a b i ∙ ap₂ differ (bit_member a i) (bit_member b i))
+    ∙ xor_digit (members a i) (members b i)
+    ∙ ap₂ (λ (x y : ℕ). not (eqb x y)) (sym (bit_member a i)) (sym (bit_member b i))
 
-pub differ-members : (a b : ℕ) → members (bit_xor a b) ≡ (λ i. not (beq (members a i) (members b i)))
-differ-members a b =
+pub differ_members : (a b : ℕ) → members (bit_xor a b) ≡ (λ i. not (beq (members a i) (members b i)))
+differ_members a b =
     fun_ext
     (λ i.
-    xor-members a b i
-    ∙ ap₂ (λ (x y : ℕ). not (eqb x y)) (bit-member a i) (bit-member b i)
+    xor_members a b i
+    ∙ ap₂ (λ (x y : ℕ). not (eqb x y)) (bit_member a i) (bit_member b i)
     ∙ ap not (digits (members a i) (members b i)))
   where
     digits : (p q : Bool) → eqb (cond p 1 0) (cond q 1 0) ≡ beq p q
@@ -122,13 +122,13 @@ differ-members a b =
 -- ---- the members of a power of two and of the complement, and what these do to another word
 
 -- i alone
-pub only-members : (i : ℕ) → members (2 ^ i) ≡ (λ j. eqb j i)
-only-members i =
+pub only_members : (i : ℕ) → members (2 ^ i) ≡ (λ j. eqb j i)
+only_members i =
     fun_ext
     (λ j.
     ⊎_elim
     (λ (e : eqb j i ≡ true). rw e (rw (eqb-true j i e) (eq-eqb (bit (2 ^ i) i) 1 (pow-same i))))
-    (λ (e : eqb j i ≡ false). rw e (ap (λ (x : ℕ). eqb x 1) (pow-other i j (eqb-false j i e))))
+    (λ (e : eqb j i ≡ false). rw e (ap (λ (x : ℕ). eqb x 1) (pow_other i j (eqb-false j i e))))
     (split (eqb j i)))
 
 -- the numbers below k that are not in a
@@ -138,9 +138,9 @@ not-members k a h i =
     (λ (e : ltb i k ≡ true).
     rw e
     (flip (members (2 ^ k - 1 - a) i) (members a i)
-    (ap₂ ◌+◌ (sym (bit-member (2 ^ k - 1 - a) i)) (sym (bit-member a i)) ∙ not-bit k a i h (ltb-true i k e))))
+    (ap₂ ◌+◌ (sym (bit_member (2 ^ k - 1 - a) i)) (sym (bit_member a i)) ∙ not-bit k a i h (ltb-true i k e))))
     (λ (e : ltb i k ≡ false).
-    rw e (ap (λ (x : ℕ). eqb x 1) (bit-above k (2 ^ k - 1 - a) i (ones_sub-lt k a) (ltb-false i k e))))
+    rw e (ap (λ (x : ℕ). eqb x 1) (bit_above k (2 ^ k - 1 - a) i (ones_sub-lt k a) (ltb-false i k e))))
     (split (ltb i k))
   where
     flip : (p q : Bool) → cond p 1 0 + cond q 1 0 ≡ 1 → p ≡ not q
@@ -159,8 +159,8 @@ full-members k =
     ∙ ap (λ (t : Bool). ltb i k && not t) (zero-members i)
     ∙ and-true (ltb i k))
 
-pub andnot-members : (k a b : ℕ) → a < 2 ^ k → b < 2 ^ k → members (bit_and a (2 ^ k - 1 - b)) ≡ minus (members a) (members b)
-andnot-members k a b ha hb =
+pub andnot_members : (k a b : ℕ) → a < 2 ^ k → b < 2 ^ k → members (bit_and a (2 ^ k - 1 - b)) ≡ minus (members a) (members b)
+andnot_members k a b ha hb =
     fun_ext
     (λ i.
     and-members a (2 ^ k - 1 - b) i
@@ -172,10 +172,10 @@ andnot-members k a b ha hb =
     (split (members a i)))
 
 pub also-members : (a i : ℕ) → members (bit_or a (2 ^ i)) ≡ also (members a) i
-also-members a i = or-members a (2 ^ i) ∙ ap (union (members a)) (only-members i)
+also-members a i = or-members a (2 ^ i) ∙ ap (union (members a)) (only_members i)
 
 pub without-members : (k a i : ℕ) → a < 2 ^ k → i < k → members (bit_and a (2 ^ k - 1 - 2 ^ i)) ≡ without (members a) i
-without-members k a i h l = andnot-members k a (2 ^ i) h (pow-lt l) ∙ ap (minus (members a)) (only-members i)
+without-members k a i h l = andnot_members k a (2 ^ i) h (pow-lt l) ∙ ap (minus (members a)) (only_members i)
 
 -- ---- the word of a set
 
@@ -196,7 +196,7 @@ above k r true h =
 above k r false h = zero-add r
 
 cond-members : (b : Bool) (k i : ℕ) → members (cond b (2 ^ k) 0) i ≡ (b && eqb i k)
-cond-members true k i = ap (λ (X : Set). X i) (only-members k)
+cond-members true k i = ap (λ (X : Set). X i) (only_members k)
 cond-members false k i = zero-members i
 
 -- below suc k is k, or below k
@@ -250,12 +250,12 @@ below-members k w h = subst (λ (x : ℕ). x < 2 ^ k) (whole k w h) (word_below 
 
 -- ---- a part of a word: its bits from j on, and k of these
 
-pub shifted-members : (j w i : ℕ) → members (w / 2 ^ j) i ≡ members w (j + i)
-shifted-members j w i = ap (λ (x : ℕ). eqb (x % 2) 1) (shr-shr w j i)
+pub shifted_members : (j w i : ℕ) → members (w / 2 ^ j) i ≡ members w (j + i)
+shifted_members j w i = ap (λ (x : ℕ). eqb (x % 2) 1) (shr-shr w j i)
 
 pub part-members : (k j w i : ℕ) → i < k → members (w / 2 ^ j % 2 ^ k) i ≡ members w (j + i)
 part-members k j w i l =
     ap (λ (x : ℕ). members x i) (sym (and_mask (w / 2 ^ j) k))
     ∙ and-members (w / 2 ^ j) (2 ^ k - 1) i
     ∙ ap (λ (X : Set). members (w / 2 ^ j) i && X i) (full-members k)
-    ∙ rw (lt-ltb i k l, and-true) (shifted-members j w i)
+    ∙ rw (lt-ltb i k l, and-true) (shifted_members j w i)

@@ -1,13 +1,13 @@
 -- A word as a set of small numbers.
 use Rattle.std.specs.Prelude.{ℕ, zero, suc, ◌+◌, ◌/◌, ◌%◌, ◌^◌, Bool, not, ◌&&◌, ◌||◌, cond, eqb}
-use Rattle.simulation.specs.Sets.{Set, all_below, anyBelow}
+use Rattle.simulation.specs.Sets.{Set, all_below, any_below}
 
 -- a set is held in a word of so many bits, or in the lower or upper half of one
-abbrev pub halfBits : ℕ
-halfBits = 16
+abbrev pub half_bits : ℕ
+half_bits = 16
 
-abbrev pub setBits : ℕ
-setBits = halfBits + halfBits
+abbrev pub set_bits : ℕ
+set_bits = half_bits + half_bits
 
 -- bit i of w: 0 or 1
 abbrev pub bit : ℕ → ℕ → ℕ
@@ -28,7 +28,7 @@ within k a b = all_below k (λ i. not (members a i) || members b i)
 
 -- a and b have a member below k in common
 abbrev pub meets : ℕ → ℕ → ℕ → Bool
-meets k a b = anyBelow k (λ i. members a i && members b i)
+meets k a b = any_below k (λ i. members a i && members b i)
 
 abbrev pub overlaps : ℕ → ℕ → Bool
-overlaps = meets setBits
+overlaps = meets set_bits

@@ -2,8 +2,8 @@
 ghost use Rattle.std.specs.Prelude.{◌≡◌, Bool, true, false, not, cond, ℕ, ◌-◌, ◌^◌, ◌%◌, ◌<◌, ◌≤◌, ltb, eqb, length, get_or};
 ghost use Rattle.std.specs.Bool.{beq};
 ghost use Rattle.std.specs.Int.Bits.{bit_and};
-ghost use Rattle.simulation.specs.Sets.{also, without, union, minus, anyBelow, count};
-ghost use Rattle.bits.specs.Word.{members, within, overlaps, halfBits, setBits};
+ghost use Rattle.simulation.specs.Sets.{also, without, union, minus, any_below, count};
+ghost use Rattle.bits.specs.Word.{members, within, overlaps, half_bits, set_bits};
 
 // The width of a word that holds a set, and of its halves.
 pub const HALF_BITS: usize = 16;
@@ -12,7 +12,7 @@ pub const SET_BITS: usize = HALF_BITS + HALF_BITS;
 
 // Whether i is a member.
 pub fn has(word: u32, i: u32) -> bool
-    requires { i < setBits }
+    requires { i < set_bits }
     ensures { result ≡ members word i }
 {
     (word >> i) % 2 == 1
@@ -20,7 +20,7 @@ pub fn has(word: u32, i: u32) -> bool
 
 // The word whose one member is i.
 pub fn only(i: u32) -> u32
-    requires { i < setBits }
+    requires { i < set_bits }
     ensures { result ≡ 2 ^ i }
 {
     1 << i
@@ -28,7 +28,7 @@ pub fn only(i: u32) -> u32
 
 // The set with i as a member.
 pub fn added(word: u32, i: u32) -> u32
-    requires { i < setBits }
+    requires { i < set_bits }
     ensures { members result ≡ also (members word) i }
 {
     word | only(i)
@@ -36,7 +36,7 @@ pub fn added(word: u32, i: u32) -> u32
 
 // The set without i.
 pub fn removed(word: u32, i: u32) -> u32
-    requires { i < setBits }
+    requires { i < set_bits }
     ensures { members result ≡ without (members word) i }
 {
     word & !only(i)
@@ -65,7 +65,7 @@ pub fn differing(a: u32, b: u32) -> u32
 
 // Whether each member of a is one of b.
 pub fn subset(a: u32, b: u32) -> bool
-    ensures { result ≡ within setBits a b }
+    ensures { result ≡ within set_bits a b }
 {
     a & b == a
 }
@@ -79,7 +79,7 @@ pub fn meet(a: u32, b: u32) -> bool
 
 // Whether there is no member.
 pub fn empty(word: u32) -> bool
-    ensures { result ≡ not (anyBelow setBits (members word)) }
+    ensures { result ≡ not (any_below set_bits (members word)) }
 {
     word == 0
 }
@@ -87,7 +87,7 @@ pub fn empty(word: u32) -> bool
 // The lowest member of a set that has one.
 pub fn lowest(word: u32) -> u32
     requires { word ≡ 0 → ⊥ }
-    ensures { (result < setBits) × (members word result ≡ true) × ((i : ℕ) → i < result → members word i ≡ false) }
+    ensures { (result < set_bits) × (members word result ≡ true) × ((i : ℕ) → i < result → members word i ≡ false) }
 {
     u32::trailing_zeros(word)
 }
@@ -112,14 +112,14 @@ pub fn several(word: u32) -> bool
 
 // How many members there are.
 pub fn size(word: u32) -> u32
-    ensures { result ≡ count setBits (members word) }
+    ensures { result ≡ count set_bits (members word) }
 {
     u32::count_ones(word)
 }
 
 // The numbers below n.
 pub fn below(n: u32) -> u32
-    requires { n ≤ setBits }
+    requires { n ≤ set_bits }
     ensures { (result ≡ 2 ^ n - 1) × (members result ≡ (λ i. ltb i n)) }
 {
     ((1u64 << n) - 1) as u32
@@ -127,7 +127,7 @@ pub fn below(n: u32) -> u32
 
 // Whether each member is below n.
 pub fn inside(word: u32, n: u32) -> bool
-    requires { n ≤ setBits }
+    requires { n ≤ set_bits }
     ensures { result ≡ ltb word (2 ^ n) }
 {
     subset(word, below(n))
@@ -135,7 +135,7 @@ pub fn inside(word: u32, n: u32) -> bool
 
 // The members below n.
 pub fn kept_below(word: u32, n: u32) -> u32
-    requires { n ≤ setBits }
+    requires { n ≤ set_bits }
     ensures { result ≡ word % 2 ^ n }
 {
     word & below(n)
@@ -143,7 +143,7 @@ pub fn kept_below(word: u32, n: u32) -> u32
 
 // The members of all the words.
 pub fn gathered(words: &[u32]) -> u32
-    ensures { members result ≡ (λ i. anyBelow (length words.now) (λ k. members (get_or words.now k 0) i)) }
+    ensures { members result ≡ (λ i. any_below (length words.now) (λ k. members (get_or words.now k 0) i)) }
 {
     let mut all = 0;
     let mut k = 0;
@@ -177,13 +177,13 @@ pub const LOWER: u32 = ALL_HALF as u32;
 
 // The word where the test holds; where it does not, if the turn is every bit and not none. The turn is one operation, and there is no branch.
 pub fn chosen(word: u32, test: bool, turn: u32) -> u32
-    ensures { (b : Bool) → turn ≡ cond b (2 ^ setBits - 1) 0 → result ≡ cond (cond b (not test) test) word 0 }
+    ensures { (b : Bool) → turn ≡ cond b (2 ^ set_bits - 1) 0 → result ≡ cond (cond b (not test) test) word 0 }
 {
     word & (picked(ALL, test) ^ turn)
 }
 
 pub fn chosen_half(word: u16, test: bool, turn: u16) -> u16
-    ensures { (b : Bool) → turn ≡ cond b (2 ^ halfBits - 1) 0 → result ≡ cond (cond b (not test) test) word 0 }
+    ensures { (b : Bool) → turn ≡ cond b (2 ^ half_bits - 1) 0 → result ≡ cond (cond b (not test) test) word 0 }
 {
     word & (picked_half(ALL_HALF, test) ^ turn)
 }

@@ -1,13 +1,13 @@
 -- 01, "The marked cases are gathered as rows of one list with one proved fact over all rows": the rows, those of 02 with them, and the fact. It is proved in proofs/Worked.
 use Rattle.std.specs.Prelude.{ℕ, ◌+◌, ◌-◌, ◌/◌, ◌%◌, ◌^◌, ◌≤◌, ◌≡◌, Bool, true, false, cond, List, [], ◌∷◌, eqb, ℤ, pos, neg_ℤ, length, take}
-use Rattle.bits.specs.Word.{halfBits}
-use Rattle.session.specs.Limits.{maxStates, maxNodes, maxEdges, maxChanges, fixedSize}
+use Rattle.bits.specs.Word.{half_bits}
+use Rattle.session.specs.Limits.{max_states, max_nodes, max_edges, max_changes, fixed_size}
 use Rattle.session.specs.Layout.{table}
 use Rattle.promises.specs.declared.Answer.{Answer}
 use Rattle.promises.specs.declared.Standing.{Standing}
 use Rattle.promises.specs.declared.FiringAnswer.{FiringAnswer}
 use Rattle.promises.specs.declared.StateOrder.{StateOrder}
-use Rattle.promises.specs.Answers.{Outcome, accepted, refused, Summary, told, toldStanding, toldFiring, toldOrder, handedBack}
+use Rattle.promises.specs.Answers.{Outcome, accepted, refused, Summary, told, told_standing, told_firing, told_order, handed_back}
 use Rattle.promises.specs.Rules.{Kind, insertion, deletion, Given, given}
 use Rattle.promises.specs.Promises.{Loaded, Edited, Matches, Fires, Ordered}
 
@@ -37,27 +37,27 @@ abbrev pub report : Bool → ℕ → List ℤ → Told
 report fires trials list = reported record { fires = fires; trials = trials; changes = length list } list
 
 -- of a question that is answered yes or no; and of the walk order: as many states as the answer says
-abbrev pub heardSaid : Outcome Bool → Told
-heardSaid (accepted b) = says b
-heardSaid (refused n) = refusal n
+abbrev pub heard_said : Outcome Bool → Told
+heard_said (accepted b) = says b
+heard_said (refused n) = refusal n
 
-abbrev pub heardOrder : Outcome ℕ → List ℕ → Told
-heardOrder (accepted n) states = lists (take n states)
-heardOrder (refused n) states = refusal n
+abbrev pub heard_order : Outcome ℕ → List ℕ → Told
+heard_order (accepted n) states = lists (take n states)
+heard_order (refused n) states = refusal n
 
 -- What is told where these are asked one after the other, from the session s on: each answer keeps the promise of its call, and each edit
 -- "has a change room of its own", of any content, that is long enough.
 pub data Played : List ℕ → List Asked → List Told → Type 0 where
   done : {s : List ℕ} → Played s [] []
   edited : {s : List ℕ} {k : Kind} {a b : ℕ} {qs : List Asked} {ts : List Told} (room : List ℤ) (r : Answer) (s' : List ℕ) (room' : List ℤ)
-      → maxChanges ≤ length room → Edited k s a b room r s' room' → Played s' qs ts
-      → Played s (edit k a b ∷ qs) (heard (told r) (handedBack room' r) ∷ ts)
+      → max_changes ≤ length room → Edited k s a b room r s' room' → Played s' qs ts
+      → Played s (edit k a b ∷ qs) (heard (told r) (handed_back room' r) ∷ ts)
   stood : {s : List ℕ} {u v : ℕ} {qs : List Asked} {ts : List Told} (r : Standing) → Matches s u v r → Played s qs ts
-      → Played s (standing u v ∷ qs) (heardSaid (toldStanding r) ∷ ts)
+      → Played s (standing u v ∷ qs) (heard_said (told_standing r) ∷ ts)
   fired : {s : List ℕ} {qs : List Asked} {ts : List Told} (r : FiringAnswer) → Fires s r → Played s qs ts
-      → Played s (firing ∷ qs) (heardSaid (toldFiring r) ∷ ts)
+      → Played s (firing ∷ qs) (heard_said (told_firing r) ∷ ts)
   ordered : {s : List ℕ} {qs : List Asked} {ts : List Told} (r : StateOrder) → Ordered s r → Played s qs ts
-      → Played s (order ∷ qs) (heardOrder (toldOrder r.answer) r.states ∷ ts)
+      → Played s (order ∷ qs) (heard_order (told_order r.answer) r.states ∷ ts)
 
 -- a row: what is loaded, what is then asked, and what is told, by the load first
 pub record Case : Type 0 where
@@ -72,8 +72,8 @@ row x qs ts = record { given = x; asked = qs; told = ts }
 -- the crate matching keep them.
 abbrev pub Fact : Case → Type 0
 Fact c = (s : List ℕ) (room : List ℤ) (r : Answer) (s' : List ℕ) (room' : List ℤ) (ts : List Told)
-    → fixedSize ≤ length s → maxChanges ≤ length room
-    → Loaded c.given s room r s' room' → Played s' c.asked ts → heard (told r) (handedBack room' r) ∷ ts ≡ c.told
+    → fixed_size ≤ length s → max_changes ≤ length room
+    → Loaded c.given s room r s' room' → Played s' c.asked ts → heard (told r) (handed_back room' r) ∷ ts ≡ c.told
 
 -- of every row of a list
 infixr 40 ◌and◌
@@ -150,7 +150,7 @@ unmasked =
 unfoldable pub full : Case
 full =
     row
-    (given (0xFFFF ∷ []) (1 ∷ []) (0 ∷ []) 0 (table maxNodes (λ v. 0)) (table maxEdges (λ k. k / maxNodes)) (table maxEdges (λ k. k % maxNodes)))
+    (given (0xFFFF ∷ []) (1 ∷ []) (0 ∷ []) 0 (table max_nodes (λ v. 0)) (table max_edges (λ k. k / max_nodes)) (table max_edges (λ k. k % max_nodes)))
     (edit insertion 4 0 ∷ edit insertion 0 0 ∷ [])
     (report false 0 [] ∷ refusal 13 ∷ refusal 12 ∷ [])
 
@@ -188,32 +188,32 @@ blank =
     (report true 2 (pos 1 ∷ pos 65 ∷ []) ∷ says true ∷ says true ∷ says true ∷ [])
 
 -- and in a ring with a plain state
-unfoldable pub blankRing : Case
-blankRing =
+unfoldable pub blank_ring : Case
+blank_ring =
     row
     (given (0 ∷ 0xFFFF ∷ []) (0 ∷ 0 ∷ []) (2 ∷ 1 ∷ []) 1 (0xA5 ∷ 0 ∷ []) [] [])
     (edit insertion 0 1 ∷ edit insertion 1 0 ∷ edit deletion 0 1 ∷ [])
     (report false 3 [] ∷ report false 1 [] ∷ report true 2 (pos 1 ∷ pos 66 ∷ []) ∷ report false 2 (neg_ℤ (pos 1) ∷ neg_ℤ (pos 66) ∷ []) ∷ [])
 
 -- 02, Job 5: the standing one is the other, so that State One holds the trigger back; "Marks and changes still cover all states"
-unfoldable pub otherHalf : Case
-otherHalf =
+unfoldable pub other_half : Case
+other_half =
     row
     (given (0xFFFF ∷ 0xFFFF ∷ []) (1 ∷ 2 ∷ []) (0 ∷ 0 ∷ []) 0 (2 ∷ []) [] [])
     (standing 1 0 ∷ standing 2 0 ∷ firing ∷ [])
     (report false 1 (pos 2 ∷ []) ∷ says false ∷ says true ∷ says false ∷ [])
 
 -- state 2 is unreached and links to State One: whether it stands or not, the trigger fires
-unfoldable pub linksBack : Case
-linksBack =
+unfoldable pub links_back : Case
+links_back =
     row
     (given (0xFFFF ∷ 0xFFFF ∷ []) (1 ∷ 2 ∷ []) (0 ∷ 1 ∷ []) 0 (1 ∷ 2 ∷ []) [] [])
     (edit insertion 1 0 ∷ edit deletion 1 0 ∷ firing ∷ [])
     (report true 2 (pos 1 ∷ []) ∷ report true 1 (pos 66 ∷ []) ∷ report true 1 (neg_ℤ (pos 66) ∷ []) ∷ says true ∷ [])
 
 -- a ring of states 2 and 3 away from State One, which links to itself: standing, the ring fires nothing, and broken it holds nothing back
-unfoldable pub ringAway : Case
-ringAway =
+unfoldable pub ring_away : Case
+ring_away =
     row
     (given (0xFFFF ∷ 0xFFFF ∷ 0xFFFF ∷ []) (1 ∷ 2 ∷ 3 ∷ []) (1 ∷ 4 ∷ 2 ∷ []) 0 (1 ∷ 2 ∷ 3 ∷ []) (1 ∷ 2 ∷ []) (2 ∷ 1 ∷ []))
     (firing ∷ edit insertion 0 0 ∷ edit deletion 1 2 ∷ firing ∷ order ∷ [])
@@ -234,8 +234,8 @@ chain =
     (report false 3 (pos 131 ∷ []) ∷ says false ∷ report true 2 (pos 1 ∷ pos 66 ∷ []) ∷ says true ∷ [])
 
 -- 02, Job 6: n states, and State One linked to the last of them, whose marks and number tell whether the upper half of a set is kept
-unfoldable pub toTheLast : ℕ → Case
-toTheLast n =
+unfoldable pub to_the_last : ℕ → Case
+to_the_last n =
     row
     (given (table n (λ u. 0xFFFF)) (table n (λ u. cond (eqb u 0) 1 (cond (eqb u (n - 1)) 2 3))) (table n (λ u. cond (eqb u 0) (2 ^ (n - 1)) 0)) 0
     (1 ∷ 2 ∷ [])
@@ -251,11 +251,11 @@ toTheLast n =
 
 -- the first number of states that a half word has no bit for, and the last
 abbrev pub seventeen : Case
-seventeen = toTheLast (halfBits + 1)
+seventeen = to_the_last (half_bits + 1)
 
-abbrev pub thirtyTwo : Case
-thirtyTwo = toTheLast maxStates
+abbrev pub thirty_two : Case
+thirty_two = to_the_last max_states
 
 -- the session and the cases that 01 marks, and those of the requests
 unfoldable pub cases : List Case
-cases = session ∷ alone ∷ nowhere ∷ loop ∷ ring ∷ spare ∷ unmasked ∷ full ∷ half ∷ hunted ∷ turned ∷ blank ∷ blankRing ∷ otherHalf ∷ linksBack ∷ ringAway ∷ chain ∷ seventeen ∷ thirtyTwo ∷ []
+cases = session ∷ alone ∷ nowhere ∷ loop ∷ ring ∷ spare ∷ unmasked ∷ full ∷ half ∷ hunted ∷ turned ∷ blank ∷ blank_ring ∷ other_half ∷ links_back ∷ ring_away ∷ chain ∷ seventeen ∷ thirty_two ∷ []

@@ -3,13 +3,13 @@
 use Rattle.std.specs.Prelude.{ℕ, ◌-◌, ◌≡◌, Bool, true, false, ◌&&◌, List, [], ◌∷◌, ◌++◌, ltb, get_or}
 use Rattle.bits.specs.Word.{members}
 use Rattle.session.specs.Trigger.{Trigger, Graph, Marks, states, nodes}
-use Rattle.session.specs.Former.{formerly, marksFit}
+use Rattle.session.specs.Former.{formerly, marks_fit}
 use Rattle.session.specs.Layout.{image}
 use Rattle.promises.specs.declared.Standing.{Standing}
 use Rattle.promises.specs.declared.FiringAnswer.{FiringAnswer}
 use Rattle.promises.specs.Standing.{stands}
-use Rattle.promises.specs.Answers.{accepted, toldStanding, toldFiring}
-use Rattle.promises.specs.Rules.{Given, given, givenTrigger, givenGraph}
+use Rattle.promises.specs.Answers.{accepted, told_standing, told_firing}
+use Rattle.promises.specs.Rules.{Given, given, given_trigger, given_graph}
 use Rattle.promises.specs.Promises.{Matches, Fires}
 
 -- A row: the trigger and the graph that are held, and the word of marks of each node; whether no mark was at a pair not admitted before the request, so that
@@ -26,20 +26,20 @@ pub record Saved : Type 0 where
 
 module _ (c : Saved) where
   abbrev pub trigger : Trigger
-  trigger = givenTrigger c.given
+  trigger = given_trigger c.given
 
   abbrev pub graph : Graph
-  graph = givenGraph c.given
+  graph = given_graph c.given
 
   abbrev pub held : Marks
   held u v = ltb u (states trigger) && (ltb v (nodes graph) && members (get_or c.marks v 0) u)
 
 -- The fact of a row, whatever words follow the session: every answer that keeps its promise tells this, and so is not refused with 10.
 pub record Reopened (c : Saved) : Type 0 where
-  pub fitted : marksFit (formerly (trigger c) (graph c)) (trigger c) (graph c) (held c) ≡ c.fitted
+  pub fitted : marks_fit (formerly (trigger c) (graph c)) (trigger c) (graph c) (held c) ≡ c.fitted
   pub stood : (rest : List ℕ) (r : Standing) → Matches (image (trigger c) (graph c) (held c) ++ rest) c.state c.node r
-      → toldStanding r ≡ accepted c.stood
-  pub fired : (rest : List ℕ) (r : FiringAnswer) → Fires (image (trigger c) (graph c) (held c) ++ rest) r → toldFiring r ≡ accepted c.fired
+      → told_standing r ≡ accepted c.stood
+  pub fired : (rest : List ℕ) (r : FiringAnswer) → Fires (image (trigger c) (graph c) (held c) ++ rest) r → told_firing r ≡ accepted c.fired
   pub fresh : stands (trigger c) (graph c) (c.state - 1) c.node ≡ c.fresh
 
 -- a mark at a pair of the blank inverted state: it "formerly admitted nothing", so this met 10
@@ -69,8 +69,8 @@ unmarked = record {
 }
 
 -- the same of a plain state that links to the blank inverted one: what it lost by the former rule, it lacks
-unfoldable pub unmarkedRing : Saved
-unmarkedRing = record {
+unfoldable pub unmarked_ring : Saved
+unmarked_ring = record {
   given = given (0 ∷ 0xFFFF ∷ []) (0 ∷ 0 ∷ []) (2 ∷ 1 ∷ []) 1 (0xA5 ∷ 0 ∷ []) (0 ∷ 1 ∷ []) (1 ∷ 0 ∷ []);
   marks = 0 ∷ 0 ∷ [];
   fitted = true;
@@ -107,5 +107,5 @@ unlinked = record {
   fresh = true;
 }
 
-unfoldable pub savedCases : List Saved
-savedCases = marked ∷ unmarked ∷ unmarkedRing ∷ unfollowed ∷ unlinked ∷ []
+unfoldable pub saved_cases : List Saved
+saved_cases = marked ∷ unmarked ∷ unmarked_ring ∷ unfollowed ∷ unlinked ∷ []

@@ -27,11 +27,11 @@ pub negated : (w : Width) (x z : ℤ) → x ≡ z → nat_abs z < 2 ^ hbits w �
 negated w x z e h = ap (λ (y : ℤ). to_z w (of_z w y)) (from_zero x z e) ∙ to_z-of_z w (neg_ℤ z) (neg-fits w z h)
 
 -- a number of 32 bits, held in 64
-pub widened-fits : (x z : ℤ) → x ≡ z → SFits w32 z → SFits w64 x
-widened-fits x z e f = subst (SFits w64) (sym e) (record { sfits = omega arith })
+pub widened_fits : (x z : ℤ) → x ≡ z → SFits w32 z → SFits w64 x
+widened_fits x z e f = subst (SFits w64) (sym e) (record { sfits = omega arith })
 
 pub widened : (x z : ℤ) → x ≡ z → SFits w32 z → to_z w64 (of_z w64 x) ≡ z
-widened x z e f = to_z-of_z w64 x (widened-fits x z e f) ∙ e
+widened x z e f = to_z-of_z w64 x (widened_fits x z e f) ∙ e
 
 pub abs_neg : (z : ℤ) → nat_abs (neg_ℤ z) ≡ nat_abs z
 abs_neg (pos zero) = refl
@@ -48,6 +48,6 @@ pub not-below : (z : ℤ) → lt_z z (pos 0) ≡ false → T (non_neg z)
 not-below (pos n) e = tt
 not-below (negsuc n) e = absurd (true≢false e)
 
-pub below-sign : (z : ℤ) → lt_z z (pos 0) ≡ not (non_neg z)
-below-sign (pos n) = le-ltb n 0 (omega arith)
-below-sign (negsuc n) = refl
+pub below_sign : (z : ℤ) → lt_z z (pos 0) ≡ not (non_neg z)
+below_sign (pos n) = le-ltb n 0 (omega arith)
+below_sign (negsuc n) = refl

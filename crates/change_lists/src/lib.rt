@@ -2,17 +2,17 @@
 ghost use Rattle.std.specs.Prelude.{◌≡◌, ◌+◌, ◌*◌, ◌<◌, ◌≤◌, eqb, pos, nat_abs, length, get_or};
 ghost use Rattle.std.specs.Int.Signed.{lt_z};
 ghost use Rattle.simulation.specs.Sets.{all_below};
-ghost use Rattle.session.specs.Limits.{maxChanges, maxNodes, maxStates};
-ghost use Rattle.listing.specs.Changes.{nodeSpan, size_of, signed};
-ghost use Rattle.listing.specs.Placed.{nodeChanges, tableChanges, Placed};
-ghost use Rattle.bits.specs.Word.{setBits};
+ghost use Rattle.session.specs.Limits.{max_changes, max_nodes, max_states};
+ghost use Rattle.listing.specs.Changes.{node_span, size_of, signed};
+ghost use Rattle.listing.specs.Placed.{node_changes, table_changes, Placed};
+ghost use Rattle.bits.specs.Word.{set_bits};
 
 // The sizes of two nodes' changes are so far apart: room for the numbers of the states.
 pub const NODE_SPAN: u32 = 64;
 
 // The change of a state at a node: positive where it begins to stand, negative where it ceases.
 pub fn change(state: u32, node: u32, begins: bool) -> i32
-    requires { (state < setBits) × (node < maxNodes) }
+    requires { (state < set_bits) × (node < max_nodes) }
     ensures { result ≡ signed begins (size_of state node) }
 {
     let size = (node * NODE_SPAN + (state + 1)) as i32;
@@ -45,7 +45,7 @@ pub struct Pair {
 }
 
 pub fn pair_of(change: i32) -> Pair
-    ensures { (result.node * nodeSpan + result.state ≡ nat_abs change) × (result.state < nodeSpan) }
+    ensures { (result.node * node_span + result.state ≡ nat_abs change) × (result.state < node_span) }
 {
     let size = size_of(change);
     Pair {
@@ -63,8 +63,8 @@ pub fn node_changes(
     before: u32,
     after: u32,
 ) -> usize
-    requires { (states ≤ setBits) × (node < maxNodes) × (at + states ≤ length changes.old) }
-    ensures { Placed changes.old at (nodeChanges node states before after) changes.new result }
+    requires { (states ≤ set_bits) × (node < max_nodes) × (at + states ≤ length changes.old) }
+    ensures { Placed changes.old at (node_changes node states before after) changes.new result }
 {
     let mut next = at;
     let mut rest = bits::differing(before, after) & bits::below(states);
@@ -100,9 +100,9 @@ pub fn write_changes(
     before: &[u32],
     after: &[u32],
 ) -> usize
-    requires states_le_max_states { (states ≤ maxStates) × (nodes ≤ maxNodes) × (maxChanges ≤ length changes.old) }
+    requires states_le_max_states { (states ≤ max_states) × (nodes ≤ max_nodes) × (max_changes ≤ length changes.old) }
     requires nodes_in_bounds { (nodes ≤ length before.now) × (nodes ≤ length after.now) }
-    ensures { Placed changes.old 0 (tableChanges states nodes before.now after.now) changes.new result }
+    ensures { Placed changes.old 0 (table_changes states nodes before.now after.now) changes.new result }
 {
     if same_words(before, after, nodes) {
         return 0;

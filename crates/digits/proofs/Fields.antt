@@ -50,8 +50,8 @@ module _ (j k m r f : ℕ) (fits : f < 2 ^ (j + k)) where
         sym (mod-mod-pow fields h (k + i)) ∙ ap (λ (n : ℕ). fields % 2 ^ n % 2 ^ (k + i)) (sym room)
         ∙ ap (λ (n : ℕ). n % 2 ^ (k + i)) (low r (j + k) fits)
 
-    pub kept-shifted : kept j k (suc m) (fields / 2 ^ i) ≡ kept j k m (r / 2 ^ i) * 2 ^ (j + k) + f / 2 ^ i % 2 ^ k
+    pub kept_shifted : kept j k (suc m) (fields / 2 ^ i) ≡ kept j k m (r / 2 ^ i) * 2 ^ (j + k) + f / 2 ^ i % 2 ^ k
     unfolding kept
-    kept-shifted =
+    kept_shifted =
         ap₂ (λ (a b : ℕ). kept j k m a * 2 ^ (j + k) + b) upper
         (sym (field fields k i) ∙ ap (λ (n : ℕ). n / 2 ^ i) cut ∙ field f k i)

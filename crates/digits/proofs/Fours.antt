@@ -31,12 +31,12 @@ bytes_of r a b c d la lb lc e =
     )
 
 module _ (entry : List ℕ) (at count x : ℕ) (room : at + count ≤ length entry) where
-  pub writing-four : (out : List ℕ) (next left : ℕ) → Writing entry at count x out next left → 4 ≤ left → (r : ℕ) → r ≡ word (x / 2 ^ ((left - 4) * 4))
+  pub writing_four : (out : List ℕ) (next left : ℕ) → Writing entry at count x out next left → 4 ≤ left → (r : ℕ) → r ≡ word (x / 2 ^ ((left - 4) * 4))
       → Writing entry at count x
       (set (set (set (set out next (bit_and r 255)) (next + 1) (bit_and (r / 2 ^ 8) 255)) (next + 2) (bit_and (r / 2 ^ 16) 255)) (next + 3) (r / 2 ^ 24))
       (next + 4)
       (left - 4)
-  writing-four out next left w l r e =
+  writing_four out next left w l r e =
       let y = x / 2 ^ ((left - 4) * 4) in
       let small : (i : ℕ) → letter (place y i) < 256 = λ i. letter-fits (place y i) (place-fits y i) in
       let s = bytes_of r (letter (place y 3)) (letter (place y 2)) (letter (place y 1)) (letter (place y 0)) (small 3) (small 2) (small 1) e in
@@ -57,6 +57,6 @@ module _ (entry : List ℕ) (at count x : ℕ) (room : at + count ≤ length ent
       rw (n₂, n₃, n₄, l₄, c₃, c₂, c₁, c₀) (more _ (next + 1 + 1 + 1) (left - 1 - 1 - 1) w₃ (omega (arith, l)))
 
   -- those that are left, written after those before them
-  pub writing-rest : (out : List ℕ) (next left : ℕ) → Writing entry at count x out next left
+  pub writing_rest : (out : List ℕ) (next left : ℕ) → Writing entry at count x out next left
       → (final : List ℕ) (past : ℕ) → Placed out next (digits left x) final past → Placed entry at (digits count x) final past
-  writing-rest out next left w final past p = rw (← w.whole) (placed-append (omega (arith, room)) w.placed p)
+  writing_rest out next left w final past p = rw (← w.whole) (placed-append (omega (arith, room)) w.placed p)

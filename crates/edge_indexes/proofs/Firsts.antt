@@ -14,24 +14,24 @@ use Rattle.simulation.specs.Ordered.{ascends, from}
 use Rattle.simulation.proofs.Sets.{clash, split}
 use Rattle.simulation.proofs.Search.{lt-or-le}
 use Rattle.simulation.proofs.Ordered.{Rising, rising-take}
-use Rattle.simulation.proofs.Edges.{from_le, before-from, from-mono, in-range, range-of}
+use Rattle.simulation.proofs.Edges.{from_le, before-from, from_mono, in_range, range_of}
 use Rattle.session.specs.Layout.{below}
 use Rattle.session.proofs.Tables.{below-take}
-use Rattle.edge_indexes.specs.Indexes.{last, startsAt, Noted, filled, Started, startsSize}
+use Rattle.edge_indexes.specs.Indexes.{last, starts_at, Noted, filled, Started, starts_size}
 use Rattle.edge_indexes.proofs.Incoming.{last-here, last_on, last-le, last-at, last-after}
-use Rattle.session.specs.Limits.{edgeNumbers, maxNodes}
+use Rattle.session.specs.Limits.{edge_numbers, max_nodes}
 
 -- ---- what is noted of the first k edges
 
 pub record Noting (es firsts : List ℕ) (k : ℕ) : Type 0 where
   pub within : k ≤ length es
-  pub long : length firsts ≡ startsSize
+  pub long : length firsts ≡ starts_size
   pub none : get_or firsts 0 0 ≡ 0
-  pub noted : (v : ℕ) → v < maxNodes → get_or firsts (v + 1) 0 ≡ last (startsAt es v) k
+  pub noted : (v : ℕ) → v < max_nodes → get_or firsts (v + 1) 0 ≡ last (starts_at es v) k
 
-pub noting-none : {es firsts : List ℕ} → length firsts ≡ startsSize → ((v : ℕ) → get_or firsts v 0 ≡ 0) → Noting es firsts 0
+pub noting_none : {es firsts : List ℕ} → length firsts ≡ starts_size → ((v : ℕ) → get_or firsts v 0 ≡ 0) → Noting es firsts 0
 unfolding last
-noting-none l z =
+noting_none l z =
     record {
       within = omega arith;
       long = l;
@@ -40,8 +40,8 @@ noting-none l z =
     }
 
 module _ {es firsts : List ℕ} {k : ℕ} (x : Noting es firsts k) where
-  pub noting-more : k < length es → below edgeNumbers es ≡ true → Noting es (set firsts (get_or es k 0 / maxNodes + 1) (k + 1)) (k + 1)
-  noting-more l low =
+  pub noting_more : k < length es → below edge_numbers es ≡ true → Noting es (set firsts (get_or es k 0 / max_nodes + 1) (k + 1)) (k + 1)
+  noting_more l low =
       record {
         within = omega arith;
         long = length-set firsts (start + 1) (k + 1) ∙ x.long;
@@ -50,29 +50,29 @@ module _ {es firsts : List ℕ} {k : ℕ} (x : Noting es firsts k) where
       }
     where
       start : ℕ
-      start = get_or es k 0 / maxNodes
+      start = get_or es k 0 / max_nodes
 
-      noted : (v : ℕ) → v < maxNodes → get_or (set firsts (start + 1) (k + 1)) (v + 1) 0 ≡ last (startsAt es v) (k + 1)
+      noted : (v : ℕ) → v < max_nodes → get_or (set firsts (start + 1) (k + 1)) (v + 1) 0 ≡ last (starts_at es v) (k + 1)
       noted v h =
           ⊎_elim
           (λ (e : eqb start v ≡ true).
           let at = eqb-true start v e in
           rw (← at)
-          (get_or-set_same firsts (start + 1) (k + 1) 0 (omega (arith, x.long, below-take edgeNumbers es low k l))
-          ∙ sym (last-here (startsAt es start) k (eq-eqb start start refl))))
+          (get_or-set_same firsts (start + 1) (k + 1) 0 (omega (arith, x.long, below-take edge_numbers es low k l))
+          ∙ sym (last-here (starts_at es start) k (eq-eqb start start refl))))
           (λ (e : eqb start v ≡ false).
           let away = eqb-false start v e in
           get_or-set_other firsts (start + 1) (v + 1) (k + 1) 0 (λ (t : v + 1 ≡ start + 1). away (omega arith))
           ∙ x.noted v h
-          ∙ sym (last_on (startsAt es v) k e))
+          ∙ sym (last_on (starts_at es v) k e))
           (split (eqb start v))
 
-  pub noting-done : k ≡ length es → Noted es firsts
-  noting-done e =
+  pub noting_done : k ≡ length es → Noted es firsts
+  noting_done e =
       record {
         long = x.long;
         none = x.none;
-        noted = λ v l. x.noted v l ∙ ap (last (startsAt es v)) e;
+        noted = λ v l. x.noted v l ∙ ap (last (starts_at es v)) e;
       }
 
 -- ---- filled in below v, and as it was from v on
@@ -92,15 +92,15 @@ module _ (xs : List ℕ) where
 
 pub record Filling (xs ys : List ℕ) (place v : ℕ) : Type 0 where
   pub some : 0 < v
-  pub within : v ≤ startsSize
-  pub long : length ys ≡ startsSize
+  pub within : v ≤ starts_size
+  pub long : length ys ≡ starts_size
   pub carried : place ≡ filled xs (v - 1)
   pub done : (w : ℕ) → w < v → get_or ys w 0 ≡ filled xs w
   pub left : (w : ℕ) → v ≤ w → get_or ys w 0 ≡ get_or xs w 0
 
-pub filling-none : {xs : List ℕ} → length xs ≡ startsSize → Filling xs xs (get_or xs 0 0) 1
+pub filling_none : {xs : List ℕ} → length xs ≡ starts_size → Filling xs xs (get_or xs 0 0) 1
 unfolding filled
-filling-none {xs} l =
+filling_none {xs} l =
     record {
       some = omega arith;
       within = omega arith;
@@ -110,7 +110,7 @@ filling-none {xs} l =
       left = λ w h. refl;
     }
 
-module _ {xs ys : List ℕ} {place v : ℕ} (x : Filling xs ys place v) (inside : v < startsSize) where
+module _ {xs ys : List ℕ} {place v : ℕ} (x : Filling xs ys place v) (inside : v < starts_size) where
   back : v - 1 + 1 ≡ v
   back = omega (arith, x.some)
 
@@ -124,8 +124,8 @@ module _ {xs ys : List ℕ} {place v : ℕ} (x : Filling xs ys place v) (inside 
   pub filled-noted : (get_or ys v 0 ≡ 0 → ⊥) → get_or ys v 0 ≡ filled xs v
   filled-noted ne = same ∙ sym (rw back at (filled-here xs (v - 1) (rw back (λ t. ne (same ∙ t)))))
 
-  pub filling-next : (place' : ℕ) → place' ≡ filled xs v → Filling xs (set ys v place') place' (v + 1)
-  filling-next place' e =
+  pub filling_next : (place' : ℕ) → place' ≡ filled xs v → Filling xs (set ys v place') place' (v + 1)
+  filling_next place' e =
       record {
         some = omega arith;
         within = omega arith;
@@ -145,46 +145,46 @@ module _ {xs ys : List ℕ} {place v : ℕ} (x : Filling xs ys place v) (inside 
 -- ---- filled in, what is noted of ascending edges is where each node's edges begin
 
 module _ (es : List ℕ) (rising : Rising es) where
-  from-none : from maxNodes es 0 ≡ 0
+  from-none : from max_nodes es 0 ≡ 0
   from-none =
       ⊎_elim
-      (λ (a : 0 < from maxNodes es 0). let low : get_or es 0 0 < 0 * maxNodes = before-from maxNodes es 0 0 a in absurd (omega arith))
-      (λ (a : from maxNodes es 0 ≤ 0). omega arith)
-      (lt-or-le 0 (from maxNodes es 0))
+      (λ (a : 0 < from max_nodes es 0). let low : get_or es 0 0 < 0 * max_nodes = before-from max_nodes es 0 0 a in absurd (omega arith))
+      (λ (a : from max_nodes es 0 ≤ 0). omega arith)
+      (lt-or-le 0 (from max_nodes es 0))
 
   -- an edge of the range of v starts at v
-  starts-in : (v k : ℕ) → from maxNodes es v ≤ k → k < from maxNodes es (v + 1) → startsAt es v k ≡ true
-  starts-in v k low high =
-      eq-eqb (get_or es k 0 / maxNodes) v (in-range maxNodes es rising v k (omega (arith, from_le maxNodes es (v + 1))) low high)
+  starts_in : (v k : ℕ) → from max_nodes es v ≤ k → k < from max_nodes es (v + 1) → starts_at es v k ≡ true
+  starts_in v k low high =
+      eq-eqb (get_or es k 0 / max_nodes) v (in_range max_nodes es rising v k (omega (arith, from_le max_nodes es (v + 1))) low high)
 
   -- no edge starts at v: the next node's begin where its would
-  from_on : (v : ℕ) → last (startsAt es v) (length es) ≡ 0 → from maxNodes es (v + 1) ≡ from maxNodes es v
+  from_on : (v : ℕ) → last (starts_at es v) (length es) ≡ 0 → from max_nodes es (v + 1) ≡ from max_nodes es v
   from_on v e =
-      let up = from-mono maxNodes es v in
-      let top = from_le maxNodes es (v + 1) in
+      let up = from_mono max_nodes es v in
+      let top = from_le max_nodes es (v + 1) in
       ⊎_elim
-      (λ (a : from maxNodes es v < from maxNodes es (v + 1)).
-      let k = from maxNodes es v in
-      clash (starts-in v k (omega arith) a) (last-after (startsAt es v) (length es) k (omega arith) (omega arith)))
-      (λ (a : from maxNodes es (v + 1) ≤ from maxNodes es v). omega arith)
-      (lt-or-le (from maxNodes es v) (from maxNodes es (v + 1)))
+      (λ (a : from max_nodes es v < from max_nodes es (v + 1)).
+      let k = from max_nodes es v in
+      clash (starts_in v k (omega arith) a) (last-after (starts_at es v) (length es) k (omega arith) (omega arith)))
+      (λ (a : from max_nodes es (v + 1) ≤ from max_nodes es v). omega arith)
+      (lt-or-le (from max_nodes es v) (from max_nodes es (v + 1)))
 
   -- some does: the next node's begin after the last of them
-  from-after : (v : ℕ) → (last (startsAt es v) (length es) ≡ 0 → ⊥) → from maxNodes es (v + 1) ≡ last (startsAt es v) (length es)
+  from-after : (v : ℕ) → (last (starts_at es v) (length es) ≡ 0 → ⊥) → from max_nodes es (v + 1) ≡ last (starts_at es v) (length es)
   from-after v some =
-      let n = last (startsAt es v) (length es) in
-      let few : n ≤ length es = last-le (startsAt es v) (length es) in
-      let top = from_le maxNodes es (v + 1) in
-      let at = eqb-true (get_or es (n - 1) 0 / maxNodes) v (last-at (startsAt es v) (length es) some) in
-      let r = range-of maxNodes es rising v (n - 1) (omega arith) (omega arith) at in
+      let n = last (starts_at es v) (length es) in
+      let few : n ≤ length es = last-le (starts_at es v) (length es) in
+      let top = from_le max_nodes es (v + 1) in
+      let at = eqb-true (get_or es (n - 1) 0 / max_nodes) v (last-at (starts_at es v) (length es) some) in
+      let r = range_of max_nodes es rising v (n - 1) (omega arith) (omega arith) at in
       ⊎_elim
-      (λ (a : n < from maxNodes es (v + 1)).
-      clash (starts-in v n (omega (arith, r.0)) a) (last-after (startsAt es v) (length es) n (omega arith) (omega arith)))
-      (λ (a : from maxNodes es (v + 1) ≤ n). omega (arith, r.1, some))
-      (lt-or-le n (from maxNodes es (v + 1)))
+      (λ (a : n < from max_nodes es (v + 1)).
+      clash (starts_in v n (omega (arith, r.0)) a) (last-after (starts_at es v) (length es) n (omega arith) (omega arith)))
+      (λ (a : from max_nodes es (v + 1) ≤ n). omega (arith, r.1, some))
+      (lt-or-le n (from max_nodes es (v + 1)))
 
   module _ (xs : List ℕ) (x : Noted es xs) where
-    filled_next : (v : ℕ) → v < maxNodes → filled xs v ≡ from maxNodes es v → filled xs (v + 1) ≡ from maxNodes es (v + 1)
+    filled_next : (v : ℕ) → v < max_nodes → filled xs v ≡ from max_nodes es v → filled xs (v + 1) ≡ from max_nodes es (v + 1)
     filled_next v h ih =
         ⊎_elim
         (λ (e : eqb n 0 ≡ true). let z = eqb-true n 0 e in filled_on xs v (note ∙ z) ∙ ih ∙ sym (from_on v z))
@@ -192,20 +192,20 @@ module _ (es : List ℕ) (rising : Rising es) where
         (split (eqb n 0))
       where
         n : ℕ
-        n = last (startsAt es v) (length es)
+        n = last (starts_at es v) (length es)
 
         note : get_or xs (v + 1) 0 ≡ n
         note = x.noted v h
 
-    filled_none : filled xs 0 ≡ from maxNodes es 0
+    filled_none : filled xs 0 ≡ from max_nodes es 0
     unfolding filled
     filled_none = x.none ∙ sym from-none
 
-    filled-from : (v : ℕ) → v < startsSize → filled xs v ≡ from maxNodes es v
+    filled-from : (v : ℕ) → v < starts_size → filled xs v ≡ from max_nodes es v
     filled-from zero h = filled_none
     filled-from (suc v) h = rw (← add-one v) (filled_next v (omega arith) (filled-from v (omega arith)))
 
-pub started : (es xs ys : List ℕ) → ascends es ≡ true → Noted es xs → length ys ≡ startsSize → ((v : ℕ) → v < startsSize → get_or ys v 0 ≡ filled xs v)
+pub started : (es xs ys : List ℕ) → ascends es ≡ true → Noted es xs → length ys ≡ starts_size → ((v : ℕ) → v < starts_size → get_or ys v 0 ≡ filled xs v)
     → Started es ys
 started es xs ys up x l f =
     record {

@@ -11,11 +11,11 @@ use lib.Dec.{leb, eqb}
 use lib.ListN.{length, get_or, set, length-set}
 use lib.Seq.{get_or-set_same, get_or-set_other}
 use borrow.Author.Tests.{eqb-true, eqb-false, eq-eqb, leb-true, le-leb}
-use Rattle.simulation.specs.Sets.{Set, anyBelow}
-use Rattle.simulation.proofs.Sets.{clash, split, same, refuted, and-make, and_l, and_r, or_l, or_r, or-take, any-make, any-take}
+use Rattle.simulation.specs.Sets.{Set, any_below}
+use Rattle.simulation.proofs.Sets.{clash, split, same, refuted, and_make, and_l, and_r, or_l, or_r, or-take, any_make, any_take}
 use Rattle.simulation.proofs.Search.{lt-or-le}
 use Rattle.edge_indexes.specs.Indexes.{last, ends_at, Indexed, predecessors}
-use Rattle.session.specs.Limits.{maxEdges, maxNodes}
+use Rattle.session.specs.Limits.{max_edges, max_nodes}
 
 -- ---- one more than the last index
 
@@ -67,65 +67,65 @@ module _ (P : Set) where
 
 pub record Indexing (es heads nexts : List ℕ) (k : ℕ) : Type 0 where
   pub within : k ≤ length es
-  pub heads-long : length heads ≡ maxNodes
-  pub nexts-long : length nexts ≡ maxEdges
-  pub head : (v : ℕ) → v < maxNodes → get_or heads v 0 ≡ last (ends_at es v) k
-  pub next : (j : ℕ) → j < k → get_or nexts j 0 ≡ last (ends_at es (get_or es j 0 % maxNodes)) j
+  pub heads_long : length heads ≡ max_nodes
+  pub nexts_long : length nexts ≡ max_edges
+  pub head : (v : ℕ) → v < max_nodes → get_or heads v 0 ≡ last (ends_at es v) k
+  pub next : (j : ℕ) → j < k → get_or nexts j 0 ≡ last (ends_at es (get_or es j 0 % max_nodes)) j
 
-pub indexing-none : {es heads nexts : List ℕ} → length heads ≡ maxNodes → length nexts ≡ maxEdges → ((v : ℕ) → get_or heads v 0 ≡ 0)
+pub indexing_none : {es heads nexts : List ℕ} → length heads ≡ max_nodes → length nexts ≡ max_edges → ((v : ℕ) → get_or heads v 0 ≡ 0)
     → Indexing es heads nexts 0
 unfolding last
-indexing-none lh ln z =
+indexing_none lh ln z =
     record {
       within = omega arith;
-      heads-long = lh;
-      nexts-long = ln;
+      heads_long = lh;
+      nexts_long = ln;
       head = λ v l. z v;
       next = λ j l. absurd (not-suc-le-zero l);
     }
 
 module _ {es heads nexts : List ℕ} {k : ℕ} (x : Indexing es heads nexts k) where
-  pub indexing-more : k < length es → length es ≤ maxEdges
-      → Indexing es (set heads (get_or es k 0 % maxNodes) (k + 1)) (set nexts k (get_or heads (get_or es k 0 % maxNodes) 0)) (k + 1)
-  indexing-more l few =
+  pub indexing_more : k < length es → length es ≤ max_edges
+      → Indexing es (set heads (get_or es k 0 % max_nodes) (k + 1)) (set nexts k (get_or heads (get_or es k 0 % max_nodes) 0)) (k + 1)
+  indexing_more l few =
       record {
         within = omega arith;
-        heads-long = length-set heads end (k + 1) ∙ x.heads-long;
-        nexts-long = length-set nexts k (get_or heads end 0) ∙ x.nexts-long;
+        heads_long = length-set heads end (k + 1) ∙ x.heads_long;
+        nexts_long = length-set nexts k (get_or heads end 0) ∙ x.nexts_long;
         head = head;
         next = chain;
       }
     where
       end : ℕ
-      end = get_or es k 0 % maxNodes
+      end = get_or es k 0 % max_nodes
 
-      head : (v : ℕ) → v < maxNodes → get_or (set heads end (k + 1)) v 0 ≡ last (ends_at es v) (k + 1)
+      head : (v : ℕ) → v < max_nodes → get_or (set heads end (k + 1)) v 0 ≡ last (ends_at es v) (k + 1)
       head v h =
           ⊎_elim
           (λ (e : eqb end v ≡ true).
           let at = eqb-true end v e in
-          rw (← at) (get_or-set_same heads end (k + 1) 0 (omega (arith, x.heads-long)) ∙ sym (last-here (ends_at es end) k (eq-eqb end end refl))))
+          rw (← at) (get_or-set_same heads end (k + 1) 0 (omega (arith, x.heads_long)) ∙ sym (last-here (ends_at es end) k (eq-eqb end end refl))))
           (λ (e : eqb end v ≡ false).
           get_or-set_other heads end v (k + 1) 0 (λ t. eqb-false end v e (sym t))
           ∙ x.head v h
           ∙ sym (last_on (ends_at es v) k e))
           (split (eqb end v))
 
-      chain : (j : ℕ) → j < k + 1 → get_or (set nexts k (get_or heads end 0)) j 0 ≡ last (ends_at es (get_or es j 0 % maxNodes)) j
+      chain : (j : ℕ) → j < k + 1 → get_or (set nexts k (get_or heads end 0)) j 0 ≡ last (ends_at es (get_or es j 0 % max_nodes)) j
       chain j h =
           ⊎_elim
           (λ (a : j < k).
           get_or-set_other nexts k j (get_or heads end 0) 0 (λ (t : j ≡ k). omega arith) ∙ x.next j a)
           (λ (a : k ≤ j).
           let at : j ≡ k = omega arith in
-          rw at (get_or-set_same nexts k (get_or heads end 0) 0 (omega (arith, x.nexts-long)) ∙ x.head end (omega arith)))
+          rw at (get_or-set_same nexts k (get_or heads end 0) 0 (omega (arith, x.nexts_long)) ∙ x.head end (omega arith)))
           (lt-or-le j k)
 
-  pub indexing-done : k ≡ length es → Indexed es heads nexts
-  indexing-done e =
+  pub indexing_done : k ≡ length es → Indexed es heads nexts
+  indexing_done e =
       record {
-        heads-long = x.heads-long;
-        nexts-long = x.nexts-long;
+        heads_long = x.heads_long;
+        nexts_long = x.nexts_long;
         head = λ v l. x.head v l ∙ ap (last (ends_at es v)) e;
         next = λ j l. x.next j (omega arith);
       }
@@ -134,31 +134,31 @@ module _ {es heads nexts : List ℕ} {k : ℕ} (x : Indexing es heads nexts k) w
 
 -- w has an edge to v among those from n on
 abbrev calls : List ℕ → ℕ → ℕ → ℕ → Set
-calls es v n w k = leb n k && (ends_at es v k && eqb (get_or es k 0 / maxNodes) w)
+calls es v n w k = leb n k && (ends_at es v k && eqb (get_or es k 0 / max_nodes) w)
 
 pub called : List ℕ → ℕ → ℕ → Set
-called es v n w = anyBelow (length es) (calls es v n w)
+called es v n w = any_below (length es) (calls es v n w)
 
 module _ (es : List ℕ) (v : ℕ) where
   called-take : (n w : ℕ) → called es v n w ≡ true
-      → (k : ℕ) × (n ≤ k) × (k < length es) × (ends_at es v k ≡ true) × (get_or es k 0 / maxNodes ≡ w)
+      → (k : ℕ) × (n ≤ k) × (k < length es) × (ends_at es v k ≡ true) × (get_or es k 0 / max_nodes ≡ w)
   unfolding called
   called-take n w h =
-      let r = any-take (length es) (calls es v n w) h in
+      let r = any_take (length es) (calls es v n w) h in
       let k = r.0 in
-      let t = and_r (leb n k) (ends_at es v k && eqb (get_or es k 0 / maxNodes) w) r.2 in (
+      let t = and_r (leb n k) (ends_at es v k && eqb (get_or es k 0 / max_nodes) w) r.2 in (
         k,
-        leb-true n k (and_l (leb n k) (ends_at es v k && eqb (get_or es k 0 / maxNodes) w) r.2),
+        leb-true n k (and_l (leb n k) (ends_at es v k && eqb (get_or es k 0 / max_nodes) w) r.2),
         r.1,
-        and_l (ends_at es v k) (eqb (get_or es k 0 / maxNodes) w) t,
-        eqb-true (get_or es k 0 / maxNodes) w (and_r (ends_at es v k) (eqb (get_or es k 0 / maxNodes) w) t),
+        and_l (ends_at es v k) (eqb (get_or es k 0 / max_nodes) w) t,
+        eqb-true (get_or es k 0 / max_nodes) w (and_r (ends_at es v k) (eqb (get_or es k 0 / max_nodes) w) t),
       )
 
-  called-make : (n w k : ℕ) → n ≤ k → k < length es → ends_at es v k ≡ true → get_or es k 0 / maxNodes ≡ w → called es v n w ≡ true
+  called_make : (n w k : ℕ) → n ≤ k → k < length es → ends_at es v k ≡ true → get_or es k 0 / max_nodes ≡ w → called es v n w ≡ true
   unfolding called
-  called-make n w k h l e s =
-      any-make (length es) (calls es v n w) k l
-      (and-make (le-leb n k h) (and-make e (eq-eqb (get_or es k 0 / maxNodes) w s)))
+  called_make n w k h l e s =
+      any_make (length es) (calls es v n w) k l
+      (and_make (le-leb n k h) (and_make e (eq-eqb (get_or es k 0 / max_nodes) w s)))
 
   called-none : (w : ℕ) → called es v (last (ends_at es v) (length es)) w ≡ false
   called-none w =
@@ -167,7 +167,7 @@ module _ (es : List ℕ) (v : ℕ) where
 
   -- no edge to v stands between two that the index joins
   called_more : (k : ℕ) → k < length es → ends_at es v k ≡ true → (w : ℕ)
-      → called es v (last (ends_at es v) k) w ≡ (called es v (k + 1) w || eqb w (get_or es k 0 / maxNodes))
+      → called es v (last (ends_at es v) k) w ≡ (called es v (k + 1) w || eqb w (get_or es k 0 / max_nodes))
   called_more k l e w =
       let before = last-le (ends_at es v) k in
       same (called es v n w) (called es v (k + 1) w || eqb w start)
@@ -177,47 +177,47 @@ module _ (es : List ℕ) (v : ℕ) where
       (λ (a : r.0 < k). clash r.3 (last-after (ends_at es v) k r.0 r.1 a))
       (λ (a : k ≤ r.0).
       ⊎_elim
-      (λ (b : k < r.0). or_l (eqb w start) (called-make (k + 1) w r.0 (omega arith) r.2 r.3 r.4))
+      (λ (b : k < r.0). or_l (eqb w start) (called_make (k + 1) w r.0 (omega arith) r.2 r.3 r.4))
       (λ (b : r.0 ≤ k).
       let at : r.0 ≡ k = omega arith in
-      or_r (called es v (k + 1) w) (eq-eqb w start (sym r.4 ∙ ap (λ (j : ℕ). get_or es j 0 / maxNodes) at)))
+      or_r (called es v (k + 1) w) (eq-eqb w start (sym r.4 ∙ ap (λ (j : ℕ). get_or es j 0 / max_nodes) at)))
       (lt-or-le k r.0))
       (lt-or-le r.0 k))
       (λ h.
       ⊎_elim
-      (λ a. let r = called-take (k + 1) w a in called-make n w r.0 (omega (arith, r.1)) r.2 r.3 r.4)
-      (λ a. called-make n w k before l e (sym (eqb-true w start a)))
+      (λ a. let r = called-take (k + 1) w a in called_make n w r.0 (omega (arith, r.1)) r.2 r.3 r.4)
+      (λ a. called_make n w k before l e (sym (eqb-true w start a)))
       (or-take (called es v (k + 1) w) (eqb w start) h))
     where
       n : ℕ
       n = last (ends_at es v) k
 
       start : ℕ
-      start = get_or es k 0 / maxNodes
+      start = get_or es k 0 / max_nodes
 
   pub called-all : (w : ℕ) → called es v 0 w ≡ predecessors es v w
   unfolding called predecessors
   called-all w =
-      ap (anyBelow (length es))
-      (fun_ext (λ k. ap (λ (b : Bool). b && (ends_at es v k && eqb (get_or es k 0 / maxNodes) w)) (le-leb 0 k zero-le)))
+      ap (any_below (length es))
+      (fun_ext (λ k. ap (λ (b : Bool). b && (ends_at es v k && eqb (get_or es k 0 / max_nodes) w)) (le-leb 0 k zero-le)))
 
 -- n edges are left, the last of them an edge to v
 pub record Chained (es : List ℕ) (v n : ℕ) : Type 0 where
   pub within : n ≤ length es
-  pub ends : (n ≡ 0 → ⊥) → get_or es (n - 1) 0 % maxNodes ≡ v
+  pub ends : (n ≡ 0 → ⊥) → get_or es (n - 1) 0 % max_nodes ≡ v
 
-chained-last : (es : List ℕ) (v k : ℕ) → k ≤ length es → Chained es v (last (ends_at es v) k)
-chained-last es v k l =
+chained_last : (es : List ℕ) (v k : ℕ) → k ≤ length es → Chained es v (last (ends_at es v) k)
+chained_last es v k l =
     record {
       within = omega (arith, last-le (ends_at es v) k);
-      ends = λ some. eqb-true (get_or es (last (ends_at es v) k - 1) 0 % maxNodes) v (last-at (ends_at es v) k some);
+      ends = λ some. eqb-true (get_or es (last (ends_at es v) k - 1) 0 % max_nodes) v (last-at (ends_at es v) k some);
     }
 
 module _ {es heads nexts : List ℕ} (x : Indexed es heads nexts) where
-  pub chained-head : (v : ℕ) → v < maxNodes → Chained es v (get_or heads v 0)
-  chained-head v h = rw (x.head v h) (chained-last es v (length es) (omega arith))
+  pub chained_head : (v : ℕ) → v < max_nodes → Chained es v (get_or heads v 0)
+  chained_head v h = rw (x.head v h) (chained_last es v (length es) (omega arith))
 
-  pub called-head : (v w : ℕ) → v < maxNodes → called es v (get_or heads v 0) w ≡ false
+  pub called-head : (v w : ℕ) → v < max_nodes → called es v (get_or heads v 0) w ≡ false
   called-head v w h = rw (x.head v h) (called-none es v w)
 
   module _ {v n : ℕ} (y : Chained es v n) (some : n ≡ 0 → ⊥) where
@@ -225,17 +225,17 @@ module _ {es heads nexts : List ℕ} (x : Indexed es heads nexts) where
     at : (n - 1 < length es) × (ends_at es v (n - 1) ≡ true) × (get_or nexts (n - 1) 0 ≡ last (ends_at es v) (n - 1))
     at =
         let l : n - 1 < length es = omega (arith, some, y.within) in
-        (l, eq-eqb (get_or es (n - 1) 0 % maxNodes) v (y.ends some), rw (← y.ends some) (x.next (n - 1) l))
+        (l, eq-eqb (get_or es (n - 1) 0 % max_nodes) v (y.ends some), rw (← y.ends some) (x.next (n - 1) l))
 
-    pub chained-less : get_or nexts (n - 1) 0 < n
-    chained-less = rw at.2 (omega (arith, some, last-le (ends_at es v) (n - 1)))
+    pub chained_less : get_or nexts (n - 1) 0 < n
+    chained_less = rw at.2 (omega (arith, some, last-le (ends_at es v) (n - 1)))
 
-    pub chained-next : Chained es v (get_or nexts (n - 1) 0)
-    chained-next = rw at.2 (chained-last es v (n - 1) (omega (arith, at.0)))
+    pub chained_next : Chained es v (get_or nexts (n - 1) 0)
+    chained_next = rw at.2 (chained_last es v (n - 1) (omega (arith, at.0)))
 
-    pub called-next : (w : ℕ) → called es v (get_or nexts (n - 1) 0) w ≡ (called es v n w || eqb w (get_or es (n - 1) 0 / maxNodes))
+    pub called-next : (w : ℕ) → called es v (get_or nexts (n - 1) 0) w ≡ (called es v n w || eqb w (get_or es (n - 1) 0 / max_nodes))
     called-next w =
         let back : n - 1 + 1 ≡ n = omega (arith, some) in
         ap (λ (m : ℕ). called es v m w) at.2
         ∙ called_more es v (n - 1) at.0 at.1 w
-        ∙ ap (λ (m : ℕ). called es v m w || eqb w (get_or es (n - 1) 0 / maxNodes)) back
+        ∙ ap (λ (m : ℕ). called es v m w || eqb w (get_or es (n - 1) 0 / max_nodes)) back

@@ -1,13 +1,13 @@
 // The two indexes of the edges, by which a look at a node searches for nothing: where its own edges begin, and which end at it.
 ghost use Rattle.std.specs.Prelude.{◌≡◌, true, ℕ, ◌<◌, ◌≤◌, length, get_or};
-ghost use Rattle.session.specs.Limits.{maxEdges, maxNodes, edgeNumbers};
+ghost use Rattle.session.specs.Limits.{max_edges, max_nodes, edge_numbers};
 ghost use Rattle.session.specs.Layout.{below};
-ghost use Rattle.edge_indexes.specs.Indexes.{Indexed, Noted, filled, Started, edgesFrom, startsSize};
+ghost use Rattle.edge_indexes.specs.Indexes.{Indexed, Noted, filled, Started, edges_from, starts_size};
 ghost use Rattle.simulation.specs.Ordered.{ascends};
 
 // Builds the index of the edges that end at each node, in tables that are zero.
 pub fn index(edges: &[u32], heads: &mut [u32], nexts: &mut [u32])
-    requires edges_len_bound { (length edges.now ≤ maxEdges) × (length heads.old ≡ maxNodes) × (length nexts.old ≡ maxEdges) }
+    requires edges_len_bound { (length edges.now ≤ max_edges) × (length heads.old ≡ max_nodes) × (length nexts.old ≡ max_edges) }
     requires by_index { (v : ℕ) → get_or heads.old v 0 ≡ 0 }
     ensures { Indexed edges.now heads.new nexts.new }
 {
@@ -25,7 +25,7 @@ pub const STARTS: usize = session::MAX_NODES + 1;
 
 // Notes for each node that has edges, in the place of the next node, where they end. The last of them is written last.
 pub fn note_ends(edges: &[u32], firsts: &mut [u32])
-    requires edges_len_bound { (length edges.now ≤ maxEdges) × (below edgeNumbers edges.now ≡ true) × (length firsts.old ≡ startsSize) }
+    requires edges_len_bound { (length edges.now ≤ max_edges) × (below edge_numbers edges.now ≡ true) × (length firsts.old ≡ starts_size) }
     requires by_index { (v : ℕ) → get_or firsts.old v 0 ≡ 0 }
     ensures { Noted edges.now firsts.new }
 {
@@ -39,8 +39,8 @@ pub fn note_ends(edges: &[u32], firsts: &mut [u32])
 
 // Where nothing was noted, the place before goes on; it is carried along, so that no read waits for a store.
 pub fn fill_in(firsts: &mut [u32])
-    requires { length firsts.old ≡ startsSize }
-    ensures { (length firsts.new ≡ startsSize) × ((v : ℕ) → v < startsSize → get_or firsts.new v 0 ≡ filled firsts.old v) }
+    requires { length firsts.old ≡ starts_size }
+    ensures { (length firsts.new ≡ starts_size) × ((v : ℕ) → v < starts_size → get_or firsts.new v 0 ≡ filled firsts.old v) }
 {
     let mut place = firsts[0];
     let mut v = 1;
@@ -56,7 +56,7 @@ pub fn fill_in(firsts: &mut [u32])
 
 // Builds the index of where the edges of each node begin, in a table that is zero.
 pub fn index_starts(edges: &[u32], firsts: &mut [u32])
-    requires edges_len_bound { (length edges.now ≤ maxEdges) × (ascends edges.now ≡ true) × (below edgeNumbers edges.now ≡ true) × (length firsts.old ≡ startsSize) }
+    requires edges_len_bound { (length edges.now ≤ max_edges) × (ascends edges.now ≡ true) × (below edge_numbers edges.now ≡ true) × (length firsts.old ≡ starts_size) }
     requires by_index { (v : ℕ) → get_or firsts.old v 0 ≡ 0 }
     ensures { Started edges.now firsts.new }
 {
@@ -66,8 +66,8 @@ pub fn index_starts(edges: &[u32], firsts: &mut [u32])
 
 // The edges of the node v: their range is found by halving.
 pub fn edges_from(edges: &[u32], v: usize) -> &[u32]
-    requires { (ascends edges.now ≡ true) × (length edges.now ≤ maxEdges) × (v < maxNodes) }
-    ensures { result.now ≡ edgesFrom edges.now v }
+    requires { (ascends edges.now ≡ true) × (length edges.now ≤ max_edges) × (v < max_nodes) }
+    ensures { result.now ≡ edges_from edges.now v }
 {
     let low = edges::first_edge(edges, v as u32);
     let high = edges::first_edge(edges, v as u32 + 1);
@@ -76,9 +76,9 @@ pub fn edges_from(edges: &[u32], v: usize) -> &[u32]
 
 // The edges of the node v: by the index of first edges, or by halving where there is none.
 pub fn edges_at<'a>(edges: &'a [u32], firsts: &[u32], v: usize) -> &'a [u32]
-    requires edges_value { (ascends edges.now ≡ true) × (length edges.now ≤ maxEdges) × (v < maxNodes) }
+    requires edges_value { (ascends edges.now ≡ true) × (length edges.now ≤ max_edges) × (v < max_nodes) }
     requires started { (length firsts.now ≡ 0 → ⊥) → Started edges.now firsts.now }
-    ensures { result.now ≡ edgesFrom edges.now v }
+    ensures { result.now ≡ edges_from edges.now v }
 {
     if firsts.len() == 0 {
         return edges_from(edges, v);

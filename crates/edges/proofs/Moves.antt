@@ -36,8 +36,8 @@ pub record Raised (entry now : List ℕ) (k : ℕ) : Type 0 where
   pub holds : now ≡ raised entry (length entry - 1) k
 
 module _ (entry : List ℕ) where
-  pub raise-start : 0 < length entry → Raised entry entry (length entry - 1)
-  raise-start h =
+  pub raise_start : 0 < length entry → Raised entry entry (length entry - 1)
+  raise_start h =
       let n = length entry - 1 in
       record {
         inside = omega arith;
@@ -48,9 +48,9 @@ module _ (entry : List ℕ) where
             ∙ append-nil entry);
       }
 
-  pub raise-step : (now : List ℕ) (k : ℕ) → Raised entry now k → 0 < k → Raised entry (set now k (get_or now (k - 1) 0)) (k - 1)
-  raise-step now zero r h = absurd (omega arith)
-  raise-step now (suc j) r h =
+  pub raise_step : (now : List ℕ) (k : ℕ) → Raised entry now k → 0 < k → Raised entry (set now k (get_or now (k - 1) 0)) (k - 1)
+  raise_step now zero r h = absurd (omega arith)
+  raise_step now (suc j) r h =
       let e : suc j - 1 ≡ j = omega arith in
       record {
         inside = omega (arith, r.inside);
@@ -58,8 +58,8 @@ module _ (entry : List ℕ) where
         holds = rw (e, r.holds) (raised-one entry (length entry - 1) j r.inside (omega (arith, r.inside)));
       }
 
-  pub raise-end : (now : List ℕ) (k : ℕ) → Raised entry now k → k ≡ 0 → now ≡ take 1 entry ++ take (length entry - 1) entry
-  raise-end now k r e = r.holds ∙ ap (raised entry (length entry - 1)) e
+  pub raise_end : (now : List ℕ) (k : ℕ) → Raised entry now k → k ≡ 0 → now ≡ take 1 entry ++ take (length entry - 1) entry
+  raise_end now k r e = r.holds ∙ ap (raised entry (length entry - 1)) e
 
 -- ---- down, from the front
 
@@ -82,21 +82,21 @@ pub record Lowered (entry now : List ℕ) (k : ℕ) : Type 0 where
   pub long : length now ≡ length entry
   pub holds : now ≡ lowered entry k
 
-pub lower-start : (entry : List ℕ) → 0 < length entry → Lowered entry entry 0
-lower-start entry h = record { inside = h; long = refl; holds = refl }
+pub lower_start : (entry : List ℕ) → 0 < length entry → Lowered entry entry 0
+lower_start entry h = record { inside = h; long = refl; holds = refl }
 
-pub lower-step : (entry now : List ℕ) (k : ℕ) → Lowered entry now k → k + 1 < length entry
+pub lower_step : (entry now : List ℕ) (k : ℕ) → Lowered entry now k → k + 1 < length entry
     → Lowered entry (set now k (get_or now (k + 1) 0)) (k + 1)
-lower-step [] now k r h = absurd (omega arith)
-lower-step (x ∷ ys) now k r h = record {
+lower_step [] now k r h = absurd (omega arith)
+lower_step (x ∷ ys) now k r h = record {
   inside = h;
   long = length-set now k (get_or now (k + 1) 0) ∙ r.long;
   holds = rw (r.holds, add-one) (lowered-one x ys k (omega arith));
 }
 
-pub lower-end : (entry now : List ℕ) (k : ℕ) → Lowered entry now k → k + 1 ≡ length entry → set now k 0 ≡ drop 1 entry ++ (0 ∷ [])
-lower-end [] now k r e = absurd (omega arith)
-lower-end (x ∷ ys) now k r e =
+pub lower_end : (entry now : List ℕ) (k : ℕ) → Lowered entry now k → k + 1 ≡ length entry → set now k 0 ≡ drop 1 entry ++ (0 ∷ [])
+lower_end [] now k r e = absurd (omega arith)
+lower_end (x ∷ ys) now k r e =
     let last : k ≡ length ys = omega arith in
     rw (r.holds, last) (lowered-all x ys)
 

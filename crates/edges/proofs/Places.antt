@@ -9,14 +9,14 @@ use lib.Dec.{ltb, eqb}
 use lib.ListN.{length, get_or, take, drop}
 use borrow.Author.Tests.{ltb-true, ltb-false, lt-ltb, le-ltb, eqb-true, eq-eqb}
 use Rattle.simulation.specs.Ordered.{elem, insert, remove}
-use Rattle.simulation.proofs.Sets.{clash, split, same, refuted, and-make, and_l, and_r}
+use Rattle.simulation.proofs.Sets.{clash, split, same, refuted, and_make, and_l, and_r}
 use Rattle.simulation.proofs.Search.{lt-or-le}
 use Rattle.simulation.proofs.Ordered.{
   Rising,
   elem_at,
   elem-head,
-  elem-tail,
-  elem-index,
+  elem_tail,
+  elem_index,
   ascending,
   place,
   place-le,
@@ -25,9 +25,9 @@ use Rattle.simulation.proofs.Ordered.{
 }
 
 -- a member stands at its place
-pub place-of-member : (xs : List ℕ) (x : ℕ) → Rising xs → elem x xs ≡ true → (place xs x < length xs) × (get_or xs (place xs x) 0 ≡ x)
-place-of-member xs x r h =
-    let i = elem-index x xs h in
+pub place_of_member : (xs : List ℕ) (x : ℕ) → Rising xs → elem x xs ≡ true → (place xs x < length xs) × (get_or xs (place xs x) 0 ≡ x)
+place_of_member xs x r h =
+    let i = elem_index x xs h in
     let k = i.0 in
     let p = place xs x in
     let up : p ≤ k = ⊎_elim (λ (l : k < p). absurd (omega (arith, before-place xs x k l, i.2))) (λ l. l) (lt-or-le k p) in
@@ -45,8 +45,8 @@ pub elem-place : (xs : List ℕ) (x p : ℕ) → Rising xs → p ≡ place xs x 
 elem-place xs x p r e =
     same (elem x xs) (inside && here)
     (λ h.
-    let m : (p < length xs) × (get_or xs p 0 ≡ x) = rw e (place-of-member xs x r h) in
-    and-make (lt-ltb p (length xs) m.0) (eq-eqb (get_or xs p 0) x m.1))
+    let m : (p < length xs) × (get_or xs p 0 ≡ x) = rw e (place_of_member xs x r h) in
+    and_make (lt-ltb p (length xs) m.0) (eq-eqb (get_or xs p 0) x m.1))
     (λ h.
     ap (λ (y : ℕ). elem y xs) (sym (eqb-true (get_or xs p 0) x (and_r inside here h)))
     ∙ elem_at xs p (ltb-true p (length xs) (and_l inside here h)))
@@ -59,10 +59,10 @@ elem-place xs x p r e =
 
 -- ---- put in at a place with lesser entries before it and none from it on
 
-insert-least : (x : ℕ) (xs : List ℕ) → ((y : ℕ) → elem y xs ≡ true → x < y) → insert x xs ≡ x ∷ xs
+insert_least : (x : ℕ) (xs : List ℕ) → ((y : ℕ) → elem y xs ≡ true → x < y) → insert x xs ≡ x ∷ xs
 unfolding insert
-insert-least x [] h = refl
-insert-least x (y ∷ ys) h =
+insert_least x [] h = refl
+insert_least x (y ∷ ys) h =
     ap (λ (b : Bool). cond b (x ∷ y ∷ ys) (y ∷ insert x ys)) (lt-ltb x y (h y (elem-head y ys)))
 
 insert-at : (x : ℕ) (xs : List ℕ) (k : ℕ) → Rising xs → k ≤ length xs → ((i : ℕ) → i < k → get_or xs i 0 < x)
@@ -76,7 +76,7 @@ insert-at x (y ∷ ys) zero r l low high =
     (λ (e : ltb x y ≡ true). ap (λ (b : Bool). cond b (x ∷ y ∷ ys) (y ∷ insert x ys)) e)
     (λ (e : ltb x y ≡ false).
     let q : y ≡ x = omega (arith, ltb-false x y e, high (omega arith)) in
-    ap (λ (b : Bool). cond b (x ∷ y ∷ ys) (y ∷ insert x ys)) e ∙ ap (λ (zs : List ℕ). y ∷ zs) (insert-least x ys (rw q at r.0)) ∙ rw q)
+    ap (λ (b : Bool). cond b (x ∷ y ∷ ys) (y ∷ insert x ys)) e ∙ ap (λ (zs : List ℕ). y ∷ zs) (insert_least x ys (rw q at r.0)) ∙ rw q)
     (split (ltb x y))
 insert-at x (y ∷ ys) (suc k) r l low high =
     let above : ltb x y ≡ false = let m : y < x = low 0 (omega arith) in le-ltb x y (omega arith) in
@@ -97,7 +97,7 @@ remove_absent x (y ∷ ys) h =
     (λ (e : eqb x y ≡ true). clash (rw (← eqb-true x y e) (elem-head x ys)) h)
     (λ (e : eqb x y ≡ false).
     ap (λ (b : Bool). cond b (remove x ys) (y ∷ remove x ys)) e
-    ∙ ap (λ (zs : List ℕ). y ∷ zs) (remove_absent x ys (refuted (elem x ys) (λ m. clash (elem-tail x y ys m) h))))
+    ∙ ap (λ (zs : List ℕ). y ∷ zs) (remove_absent x ys (refuted (elem x ys) (λ m. clash (elem_tail x y ys m) h))))
     (split (eqb x y))
 
 remove-at : (x : ℕ) (xs : List ℕ) (k : ℕ) → Rising xs → k < length xs → get_or xs k 0 ≡ x → remove x xs ≡ take k xs ++ drop (suc k) xs
@@ -114,4 +114,4 @@ remove-at x (y ∷ ys) (suc k) r l e =
 
 pub remove-place : (x : ℕ) (xs : List ℕ) (p : ℕ) → Rising xs → elem x xs ≡ true → p ≡ place xs x
     → remove x xs ≡ take p xs ++ drop (suc p) xs
-remove-place x xs p r h e = let m = place-of-member xs x r h in rw e (remove-at x xs (place xs x) r m.0 m.1)
+remove-place x xs p r h e = let m = place_of_member xs x r h in rw e (remove-at x xs (place xs x) r m.0 m.1)

@@ -1,14 +1,14 @@
 // The edges that a session holds: one looked for, one put in, one taken out.
 ghost use Rattle.std.specs.Prelude.{◌≡◌, true, ◌++◌, ◌<◌, length, drop};
-ghost use Rattle.session.specs.Limits.{fixedSize, maxEdges};
-ghost use Rattle.session.specs.Trigger.{nodes, edge, withEdge, withoutEdge};
-ghost use Rattle.session.specs.Layout.{image, triggerOf, graph_of, marksOf, inLayout};
+ghost use Rattle.session.specs.Limits.{fixed_size, max_edges};
+ghost use Rattle.session.specs.Trigger.{nodes, edge, with_edge, without_edge};
+ghost use Rattle.session.specs.Layout.{image, trigger_of, graph_of, marks_of, in_layout};
 
 use super::{drop_edge, has_edge, put_edge};
 
 // Whether the session has the edge from start to end.
 pub fn edge_in(session: &[u32], start: u32, end: u32) -> bool
-    requires session_value { inLayout session.now ≡ true }
+    requires session_value { in_layout session.now ≡ true }
     requires start_bound { (start < nodes (graph_of session.now)) × (end < nodes (graph_of session.now)) }
     ensures { result ≡ edge (graph_of session.now) start end }
 {
@@ -21,10 +21,10 @@ pub fn edge_in(session: &[u32], start: u32, end: u32) -> bool
 
 // Puts an edge into the session. Where it is new, all but what the marks say stays in layout.
 pub fn insert_edge(session: &mut [u32], start: u32, end: u32)
-    requires session_value { inLayout session.old ≡ true }
+    requires session_value { in_layout session.old ≡ true }
     requires start_bound { (start < nodes (graph_of session.old)) × (end < nodes (graph_of session.old)) }
-    requires session_len_bound { length (graph_of session.old).edges < maxEdges }
-    ensures { session.new ≡ image (triggerOf session.old) (withEdge (graph_of session.old) start end) (marksOf session.old) ++ drop fixedSize session.old }
+    requires session_len_bound { length (graph_of session.old).edges < max_edges }
+    ensures { session.new ≡ image (trigger_of session.old) (with_edge (graph_of session.old) start end) (marks_of session.old) ++ drop fixed_size session.old }
 {
     let edges = session[2];
     let edges_end = session::EDGES_AT + 1 + edges as usize;
@@ -37,9 +37,9 @@ pub fn insert_edge(session: &mut [u32], start: u32, end: u32)
 
 // Takes an edge out of the session. All but what the marks say stays in layout.
 pub fn remove_edge(session: &mut [u32], start: u32, end: u32)
-    requires session_value { inLayout session.old ≡ true }
+    requires session_value { in_layout session.old ≡ true }
     requires end_value { edge (graph_of session.old) start end ≡ true }
-    ensures { session.new ≡ image (triggerOf session.old) (withoutEdge (graph_of session.old) start end) (marksOf session.old) ++ drop fixedSize session.old }
+    ensures { session.new ≡ image (trigger_of session.old) (without_edge (graph_of session.old) start end) (marks_of session.old) ++ drop fixed_size session.old }
 {
     let edges = session[2];
     let edges_end = session::EDGES_AT + edges as usize;

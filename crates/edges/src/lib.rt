@@ -2,7 +2,7 @@
 ghost use Rattle.std.specs.Prelude.{◌≡◌, true, [], ◌∷◌, ◌++◌, ◌+◌, ◌-◌, ◌<◌, ◌≤◌, leb, length, get_or, take, drop};
 ghost use Rattle.simulation.specs.Search.{first};
 ghost use Rattle.simulation.specs.Ordered.{ascends, from, elem, insert, remove};
-ghost use Rattle.session.specs.Limits.{maxNodes};
+ghost use Rattle.session.specs.Limits.{max_nodes};
 ghost use Rattle.session.specs.Layout.{part};
 
 pub mod held;
@@ -27,8 +27,8 @@ pub fn place_of(edges: &[u32], code: u32) -> usize
 
 // The index of the first edge that starts at v or after it.
 pub fn first_edge(edges: &[u32], v: u32) -> usize
-    requires { (ascends edges.now ≡ true) × (v ≤ maxNodes) }
-    ensures { result ≡ from maxNodes edges.now v }
+    requires { (ascends edges.now ≡ true) × (v ≤ max_nodes) }
+    ensures { result ≡ from max_nodes edges.now v }
 {
     place_of(edges, v * session::EDGE_BASE)
 }

@@ -1,8 +1,8 @@
 // The calls that insert and delete an edge: the rules, the edit proper, and its report.
 ghost use Rattle.std.specs.Prelude.{◌≡◌, true, length};
-ghost use Rattle.session.specs.Limits.{maxNodes};
-ghost use Rattle.session.specs.Layout.{triggerOf, graph_of, marksOf, inLayout};
-ghost use Rattle.promises.specs.Rules.{graphRules, verdict};
+ghost use Rattle.session.specs.Limits.{max_nodes};
+ghost use Rattle.session.specs.Layout.{trigger_of, graph_of, marks_of, in_layout};
+ghost use Rattle.promises.specs.Rules.{graph_rules, verdict};
 ghost use Rattle.promises.specs.Promises.{Done, Edited, Inserted, Deleted};
 ghost use Rattle.editing.specs.Steps.{kind_of, Saved};
 
@@ -21,8 +21,8 @@ pub fn edit_proper(
     end: u32,
     before: &mut [u32],
 ) -> Effect
-    requires { (inLayout session.old ≡ true) × (verdict (graphRules (kind_of inserts) (graph_of session.old) start end) ≡ 0) × (length before.old ≡ maxNodes) }
-    ensures { Done (kind_of inserts) (triggerOf session.old) (graph_of session.old) (marksOf session.old) (marksOf session.new) start end result.trials session.old session.new × Saved session.old session.new before.new result.calm }
+    requires { (in_layout session.old ≡ true) × (verdict (graph_rules (kind_of inserts) (graph_of session.old) start end) ≡ 0) × (length before.old ≡ max_nodes) }
+    ensures { Done (kind_of inserts) (trigger_of session.old) (graph_of session.old) (marks_of session.old) (marks_of session.new) start end result.trials session.old session.new × Saved session.old session.new before.new result.calm }
 {
     if inserts {
         insert_edit(session, start, end, before)

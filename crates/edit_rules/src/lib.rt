@@ -1,14 +1,14 @@
 // The rules of an edit, in their sequence.
 ghost use Rattle.std.specs.Prelude.{◌≡◌};
-ghost use Rattle.promises.specs.Rules.{editRules, verdict};
-ghost use Rattle.editing.specs.Steps.{kind_of, sharedRules};
+ghost use Rattle.promises.specs.Rules.{edit_rules, verdict};
+ghost use Rattle.editing.specs.Steps.{kind_of, shared_rules};
 
 use edges::held::edge_in;
 use reports::too_short;
 
 // The number of the first rule broken of those that both edits share, and 0 where none is.
 pub fn shared_rule(session: &[u32], room: usize, start: u32, end: u32) -> u8
-    ensures { result ≡ verdict (sharedRules session.now room start end) }
+    ensures { result ≡ verdict (shared_rules session.now room start end) }
 {
     if too_short(session.len(), room) {
         return 3;
@@ -27,7 +27,7 @@ pub fn shared_rule(session: &[u32], room: usize, start: u32, end: u32) -> u8
 
 // The number of the first rule that an edit breaks, and 0 where it breaks none.
 pub fn edit_rule(session: &[u32], room: usize, inserts: bool, start: u32, end: u32) -> u8
-    ensures { result ≡ verdict (editRules (kind_of inserts) session.now room start end) }
+    ensures { result ≡ verdict (edit_rules (kind_of inserts) session.now room start end) }
 {
     let broken = shared_rule(session, room, start, end);
     if broken != 0 {

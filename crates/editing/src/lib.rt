@@ -1,8 +1,8 @@
 // What the steps of an edit leave is defined in specs/, with the laws that insertion and deletion share, and the refinement from one node.
 ghost use Rattle.std.specs.Prelude.{◌≡◌, true, ◌<◌, length};
-ghost use Rattle.session.specs.Limits.{maxNodes};
+ghost use Rattle.session.specs.Limits.{max_nodes};
 ghost use Rattle.session.specs.Trigger.{nodes};
-ghost use Rattle.session.specs.Layout.{graph_of, inLayout};
+ghost use Rattle.session.specs.Layout.{graph_of, in_layout};
 ghost use Rattle.pair_tables.specs.Tables.{marked};
 ghost use Rattle.session_parts.specs.Inside.{Inside};
 ghost use Rattle.editing.specs.Steps.{RefinedAt};
@@ -20,7 +20,7 @@ pub struct Effect {
 
 // Refines a table beside a settled one, from one node.
 pub fn refine_at(session: &[u32], node: u32, settled: &[u32], table: &mut [u32])
-    requires { (inLayout session.now ≡ true) × (node < nodes (graph_of session.now)) × (length settled.now ≡ maxNodes) × (length table.old ≡ maxNodes) × Inside session.now table.old }
+    requires { (in_layout session.now ≡ true) × (node < nodes (graph_of session.now)) × (length settled.now ≡ max_nodes) × (length table.old ≡ max_nodes) × Inside session.now table.old }
     ensures { RefinedAt session.now node (marked settled.now) (marked table.old) table.new }
 {
     let nodes = session[1] as usize;

@@ -1,6 +1,6 @@
 // The machine: it takes one line of input at a time, in memory that the caller lends.
 ghost use Rattle.std.specs.Prelude.{◌≡◌, ◌||◌, ltb};
-ghost use Rattle.session.specs.Limits.{maxStates, maxNodes, fixedSize, maxChanges};
+ghost use Rattle.session.specs.Limits.{max_states, max_nodes, fixed_size, max_changes};
 ghost use Rattle.promises.specs.Rules.{verdict};
 ghost use Rattle.frames.specs.Machine as m;
 
@@ -19,7 +19,7 @@ pub const OUTPUT_SIZE: usize = 13 + 11 * session::MAX_CHANGES;
 
 // Whether the lent memory is too short.
 pub fn too_small(counts: usize, words: usize, session: usize, room: usize, out: usize) -> bool
-    ensures { result ≡ ((ltb counts m.countsSize || ltb words m.wordsSize) || (ltb session fixedSize || (ltb room maxChanges || ltb out m.outputSize))) }
+    ensures { result ≡ ((ltb counts m.countsSize || ltb words m.wordsSize) || (ltb session fixed_size || (ltb room max_changes || ltb out m.outputSize))) }
 {
     (counts < COUNTS_SIZE || words < WORDS_SIZE)
         || (session < session::FIXED_SIZE || (room < session::MAX_CHANGES || out < OUTPUT_SIZE))
@@ -27,7 +27,7 @@ pub fn too_small(counts: usize, words: usize, session: usize, room: usize, out: 
 
 // Whether the counts are out of range.
 pub fn miscounted(moment: u32, states: u32, nodes: u32) -> bool
-    ensures { result ≡ (ltb 1 moment || (ltb maxStates states || ltb maxNodes nodes)) }
+    ensures { result ≡ (ltb 1 moment || (ltb max_states states || ltb max_nodes nodes)) }
 {
     1 < moment || ((session::MAX_STATES as u32) < states || (session::MAX_NODES as u32) < nodes)
 }

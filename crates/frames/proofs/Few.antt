@@ -6,18 +6,18 @@ use mathlib.Core.Logic.{⊎_elim}
 use mathlib.Core.List.{List, []}
 use lib.IntN.{ℤ}
 use lib.ListN.{length, drop}
-use Rattle.session.specs.Limits.{maxStates, maxNodes, maxChanges}
+use Rattle.session.specs.Limits.{max_states, max_nodes, max_changes}
 use Rattle.session.specs.Trigger.{Trigger, Graph, Marks, states, nodes}
-use Rattle.session.specs.Layout.{triggerOf, graph_of, marksOf}
+use Rattle.session.specs.Layout.{trigger_of, graph_of, marks_of}
 use Rattle.session.proofs.Decoded.{layout-facts}
 use Rattle.listing.specs.Changes.{changes}
 use Rattle.promises.specs.declared.Answer.{Answer}
 use Rattle.promises.specs.declared.StateOrder.{StateOrder}
-use Rattle.promises.specs.Answers.{accepted, outcome, told, toldOrder, changesTold, handedBack}
-use Rattle.promises.specs.Rules.{Kind, Given, givenTrigger, givenGraph, edited, verdict, loadRules, editRules, questionRules}
+use Rattle.promises.specs.Answers.{accepted, outcome, told, told_order, changes_told, handed_back}
+use Rattle.promises.specs.Rules.{Kind, Given, given_trigger, given_graph, edited, verdict, load_rules, edit_rules, question_rules}
 use Rattle.promises.specs.Promises.{Reported, Loaded, Edited, Ordered}
 use Rattle.promises.proofs.Counted.{list-few}
-use Rattle.promises.proofs.Handed.{handed-back, handed-none}
+use Rattle.promises.proofs.Handed.{handed_back_lem, handed_none}
 use Rattle.promises.proofs.Verdicts.{accepts-or}
 use Rattle.promises.proofs.Loads.{load-trigger, load-graph}
 use Rattle.promises.proofs.Edits.{edited-facts}
@@ -25,43 +25,43 @@ use Rattle.promises.proofs.Demands.{outcome-refused}
 use Rattle.promises.proofs.Passed.{edit-passed}
 use Rattle.promises.proofs.Passed.{question-passed}
 
-reported-few : (t : Trigger) (g : Graph) (m before after : Marks) (trials : ℕ) (c c' : List ℤ) (r : Answer) → states t ≤ maxStates → nodes g ≤ maxNodes
-    → Reported t g m trials (changes t g before after) c r c' → length (handedBack c' r) ≤ maxChanges
-reported-few t g m before after trials c c' r few-states few-nodes p =
+reported-few : (t : Trigger) (g : Graph) (m before after : Marks) (trials : ℕ) (c c' : List ℤ) (r : Answer) → states t ≤ max_states → nodes g ≤ max_nodes
+    → Reported t g m trials (changes t g before after) c r c' → length (handed_back c' r) ≤ max_changes
+reported-few t g m before after trials c c' r few_states few_nodes p =
     let list = changes t g before after in
-    let e : handedBack c' r ≡ list = ap (λ (room : List ℤ). handedBack room r) p.room ∙ handed-back list (drop (length list) c) r (ap changesTold p.answer) in
-    omega (arith, ap length e, list-few t g before after few-states few-nodes)
+    let e : handed_back c' r ≡ list = ap (λ (room : List ℤ). handed_back room r) p.room ∙ handed_back_lem list (drop (length list) c) r (ap changes_told p.answer) in
+    omega (arith, ap length e, list-few t g before after few_states few_nodes)
 
-refused-few : (c : List ℤ) (r : Answer) → changesTold (told r) ≡ 0 → length (handedBack c r) ≤ maxChanges
-refused-few c r e = omega (arith, ap length (handed-none c r e))
+refused-few : (c : List ℤ) (r : Answer) → changes_told (told r) ≡ 0 → length (handed_back c r) ≤ max_changes
+refused-few c r e = omega (arith, ap length (handed_none c r e))
 
-pub loaded-few : (x : Given) (s : List ℕ) (c : List ℤ) (r : Answer) (s' : List ℕ) (c' : List ℤ) → Loaded x s c r s' c' → length (handedBack c' r) ≤ maxChanges
+pub loaded-few : (x : Given) (s : List ℕ) (c : List ℤ) (r : Answer) (s' : List ℕ) (c' : List ℤ) → Loaded x s c r s' c' → length (handed_back c' r) ≤ max_changes
 loaded-few x s c r s' c' p =
     ⊎_elim
     (λ ok.
-    reported-few (givenTrigger x) (givenGraph x) _ _ _ _ c c' r
+    reported-few (given_trigger x) (given_graph x) _ _ _ _ c c' r
     (load-trigger (length s) (length c) x ok p.words.0 p.words.1).few
     (load-graph (length s) (length c) x ok p.words.2).few
     (p.accepts ok).1)
-    (λ bad. refused-few c' r (ap changesTold (p.refuses bad).answer))
-    (accepts-or (verdict (loadRules (length s) (length c) x)))
+    (λ bad. refused-few c' r (ap changes_told (p.refuses bad).answer))
+    (accepts-or (verdict (load_rules (length s) (length c) x)))
 
 pub edited-few : (k : Kind) (s : List ℕ) (a b : ℕ) (c : List ℤ) (r : Answer) (s' : List ℕ) (c' : List ℤ) → Edited k s a b c r s' c'
-    → length (handedBack c' r) ≤ maxChanges
+    → length (handed_back c' r) ≤ max_changes
 edited-few k s a b c r s' c' p =
     ⊎_elim
     (λ ok.
     let w = edit-passed k s (length c) a b ok in
     let f = layout-facts s w.0 in
-    reported-few (triggerOf s) (edited k (graph_of s) a b) (marksOf s') (marksOf s) (marksOf s') _ c c' r f.trigger.few
+    reported-few (trigger_of s) (edited k (graph_of s) a b) (marks_of s') (marks_of s) (marks_of s') _ c c' r f.trigger.few
     (edited-facts k (graph_of s) a b f.graph w.2).few (p.accepts ok).report)
-    (λ bad. refused-few c' r (ap changesTold (p.refuses bad).answer))
-    (accepts-or (verdict (editRules k s (length c) a b)))
+    (λ bad. refused-few c' r (ap changes_told (p.refuses bad).answer))
+    (accepts-or (verdict (edit_rules k s (length c) a b)))
 
-pub ordered-few : (s : List ℕ) (r : StateOrder) (n : ℕ) → Ordered s r → toldOrder r.answer ≡ accepted n → n ≤ maxStates
+pub ordered-few : (s : List ℕ) (r : StateOrder) (n : ℕ) → Ordered s r → told_order r.answer ≡ accepted n → n ≤ max_states
 ordered-few s r n p says =
-    let v = verdict (questionRules s []) in
-    let st = states (triggerOf s) in
+    let v = verdict (question_rules s []) in
+    let st = states (trigger_of s) in
     ⊎_elim
     (λ ok.
     let z : accepted n ≡ accepted st = sym says ∙ p.answer ∙ ap (λ (k : ℕ). outcome k st) ok in

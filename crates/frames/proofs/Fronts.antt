@@ -14,16 +14,16 @@ use Rattle.simulation.proofs.Sets.{clash, and_none}
 use Rattle.simulation.proofs.Search.{lt-or-le}
 use Rattle.frames.specs.Digits.{hexadecimal, number}
 use Rattle.frames.specs.Frames.{nothing, spoken, frame_of}
-use Rattle.frames.specs.Lines.{linesAfter, lineEnds, lineIn, longestFrame, frontSize, frontWith, Keeps, Gathers}
+use Rattle.frames.specs.Lines.{lines_after, line_ends, line_in, longest_frame, front_size, front_with, Keeps, Gathers}
 
 -- ---- the front of a line tells its frame
 
 -- more fields than any kind has
-spoken-long : (kind : ℕ) (ds : List ℕ) → longestFrame < 2 + length ds → spoken kind ds ≡ nothing
+spoken-long : (kind : ℕ) (ds : List ℕ) → longest_frame < 2 + length ds → spoken kind ds ≡ nothing
 unfolding spoken
 spoken-long kind ds l =
-    let other : (n : ℕ) → 2 + n ≤ longestFrame → eqb (length ds) n ≡ false = λ n h. ne_eqb (length ds) n (λ e. absurd (omega arith)) in
-    let no : (k n : ℕ) → 2 + n ≤ longestFrame → (eqb kind k && eqb (length ds) n) ≡ false = λ k n h. and_none (eqb kind k) (other n h) in
+    let other : (n : ℕ) → 2 + n ≤ longest_frame → eqb (length ds) n ≡ false = λ n h. ne_eqb (length ds) n (λ e. absurd (omega arith)) in
+    let no : (k n : ℕ) → 2 + n ≤ longest_frame → (eqb kind k && eqb (length ds) n) ≡ false = λ k n h. and_none (eqb kind k) (other n h) in
     rw (
       no 1 12 (omega arith),
       no 2 4 (omega arith),
@@ -36,7 +36,7 @@ spoken-long kind ds l =
     )
 
 -- a line longer than any frame is none
-line-long : (line : List ℕ) → longestFrame < length line → frame_of line ≡ nothing
+line-long : (line : List ℕ) → longest_frame < length line → frame_of line ≡ nothing
 unfolding frame_of
 line-long line l = by (leb 2 (length line) && hexadecimal line)
   where
@@ -46,14 +46,14 @@ line-long line l = by (leb 2 (length line) && hexadecimal line)
 
 -- the front kept of a line, and the line: the same, or both longer than any frame
 abbrev pub Like : List ℕ → List ℕ → Type 0
-Like front line = (front ≡ line) ⊎ ((longestFrame < length front) × (longestFrame < length line))
+Like front line = (front ≡ line) ⊎ ((longest_frame < length front) × (longest_frame < length line))
 
-pub like-frame : (front line : List ℕ) → Like front line → frame_of front ≡ frame_of line
-like-frame front line h = ⊎_elim (λ e. ap frame_of e) (λ l. line-long front l.0 ∙ sym (line-long line l.1)) h
+pub like_frame : (front line : List ℕ) → Like front line → frame_of front ≡ frame_of line
+like_frame front line h = ⊎_elim (λ e. ap frame_of e) (λ l. line-long front l.0 ∙ sym (line-long line l.1)) h
 
 -- with the same bytes after both, and of the front no more than a memory holds
-pub like-more : (n : ℕ) (front line bytes : List ℕ) → frontSize ≤ n → Like front line → Like (take n (front ++ bytes)) (line ++ bytes)
-like-more n front line bytes h k =
+pub like_more : (n : ℕ) (front line bytes : List ℕ) → front_size ≤ n → Like front line → Like (take n (front ++ bytes)) (line ++ bytes)
+like_more n front line bytes h k =
     ⊎_elim
     (λ e.
     ⊎_elim
@@ -64,8 +64,8 @@ like-more n front line bytes h k =
     k
 
 -- of a line a front longer than any frame is enough
-pub front-enough : (n : ℕ) (line : List ℕ) → frontSize ≤ n → frame_of (take n line) ≡ frame_of line
-front-enough n line h = like-frame (take n line) line (like-more n [] [] line h (inl refl))
+pub front_enough : (n : ℕ) (line : List ℕ) → front_size ≤ n → frame_of (take n line) ≡ frame_of line
+front_enough n line h = like_frame (take n line) line (like_more n [] [] line h (inl refl))
 
 -- ---- bytes kept after a front
 
@@ -89,7 +89,7 @@ module _ (memory : List ℕ) (used : ℕ) where
   -- the whole front at first, or all of the memory
   pub keeps-part : used ≤ length memory → Keeps memory used [] memory used
   keeps-part l =
-      let front : frontWith memory used [] ≡ take used memory =
+      let front : front_with memory used [] ≡ take used memory =
       ap (take (length memory)) (append-nil (take used memory)) ∙ take_all (length memory) (take used memory) (omega (arith, length-take used memory)) in
       let long : used ≡ length (take used memory) = sym (length-take-le used memory l) in
       record {
@@ -100,7 +100,7 @@ module _ (memory : List ℕ) (used : ℕ) where
   module _ (over : length memory ≤ used) (bytes : List ℕ) where
     pub keeps-full : Keeps memory used bytes memory (length memory)
     keeps-full =
-        let front : frontWith memory used bytes ≡ memory =
+        let front : front_with memory used bytes ≡ memory =
         ap (λ (w : List ℕ). take (length memory) (w ++ bytes)) (take_all used memory over) ∙ take-append_seam memory bytes in
         record {
           many = ap length (sym front);
@@ -108,11 +108,11 @@ module _ (memory : List ℕ) (used : ℕ) where
         }
 
   -- one byte more
-  pub keeps-byte : (c : ℕ) → used < length memory → Keeps memory used (c ∷ []) (set memory used c) (used + 1)
-  keeps-byte c l =
+  pub keeps_byte : (c : ℕ) → used < length memory → Keeps memory used (c ∷ []) (set memory used c) (used + 1)
+  keeps_byte c l =
       let long : length (take used memory ++ (c ∷ [])) ≡ used + 1 =
       length-append (take used memory) (c ∷ []) ∙ ap (λ (k : ℕ). k + 1) (length-take-le used memory (omega arith)) in
-      let front : frontWith memory used (c ∷ []) ≡ take used memory ++ (c ∷ []) =
+      let front : front_with memory used (c ∷ []) ≡ take used memory ++ (c ∷ []) =
       take_all (length memory) (take used memory ++ (c ∷ [])) (omega (arith, long)) in
       record {
         many = sym (ap length front ∙ long);
@@ -124,8 +124,8 @@ module _ (memory : List ℕ) (used : ℕ) where
 
 -- the front is what it says, and no longer than its memory
 module _ (memory : List ℕ) (used : ℕ) (bytes memory' : List ℕ) (used' : ℕ) (k : Keeps memory used bytes memory' used') where
-  pub keeps-front : take used' memory' ≡ frontWith memory used bytes
-  keeps-front = ap₂ take k.many k.left ∙ take-append_seam (frontWith memory used bytes) _
+  pub keeps-front : take used' memory' ≡ front_with memory used bytes
+  keeps-front = ap₂ take k.many k.left ∙ take-append_seam (front_with memory used bytes) _
 
   pub keeps-inside : used' ≤ length memory
   keeps-inside = omega (arith, k.many, length-take (length memory) (take used memory ++ bytes))
@@ -133,16 +133,16 @@ module _ (memory : List ℕ) (used : ℕ) (bytes memory' : List ℕ) (used' : �
   pub keeps-long : length memory' ≡ length memory
   keeps-long =
       ap length k.left
-      ∙ length-append (frontWith memory used bytes) (drop (length (frontWith memory used bytes)) memory)
-      ∙ omega (arith, k.many, keeps-inside, length-drop (length (frontWith memory used bytes)) memory)
+      ∙ length-append (front_with memory used bytes) (drop (length (front_with memory used bytes)) memory)
+      ∙ omega (arith, k.many, keeps-inside, length-drop (length (front_with memory used bytes)) memory)
 
-  keeps-beyond : drop used' memory' ≡ drop used' memory
-  keeps-beyond = rw (k.many, k.left) (drop-append_seam (frontWith memory used bytes) _)
+  keeps_beyond : drop used' memory' ≡ drop used' memory
+  keeps_beyond = rw (k.many, k.left) (drop-append_seam (front_with memory used bytes) _)
 
   -- bytes kept, and then more bytes
   pub keeps-more : (more memory'' : List ℕ) (used'' : ℕ) → Keeps memory' used' more memory'' used'' → Keeps memory used (bytes ++ more) memory'' used''
   keeps-more more memory'' used'' n =
-      let front : frontWith memory' used' more ≡ frontWith memory used (bytes ++ more) =
+      let front : front_with memory' used' more ≡ front_with memory used (bytes ++ more) =
       rw (keeps-long, keeps-front)
       (take-front (length memory) (take used memory ++ bytes) more ∙ ap (take (length memory)) (append_assoc (take used memory) bytes more)) in
       let grows : used' ≤ used'' =
@@ -153,7 +153,7 @@ module _ (memory : List ℕ) (used : ℕ) (bytes memory' : List ℕ) (used' : �
             n.left
             ∙ ap₂ ◌++◌ front
             (ap (λ (j : ℕ). drop j memory') (sym n.many)
-            ∙ drop_more memory' memory used' used'' grows keeps-beyond
+            ∙ drop_more memory' memory used' used'' grows keeps_beyond
             ∙ ap (λ (j : ℕ). drop j memory) (n.many ∙ ap length front));
       }
 
@@ -170,22 +170,22 @@ keeps_same memory used used' k =
 pub record Sofar (memory : List ℕ) (used : ℕ) (block : List ℕ) (at : ℕ) (memory' : List ℕ) (used' next : ℕ) : Type 0 where
   pub bytes : List ℕ
   pub keeps : Keeps memory used bytes memory' used'
-  pub line : lineIn (drop at block) ≡ bytes ++ lineIn (drop next block)
-  pub ends : lineEnds (drop at block) ≡ lineEnds (drop next block)
+  pub line : line_in (drop at block) ≡ bytes ++ line_in (drop next block)
+  pub ends : line_ends (drop at block) ≡ line_ends (drop next block)
   pub place : next ≡ at + length bytes
 
 module _ (memory : List ℕ) (used : ℕ) (block : List ℕ) (at : ℕ) where
-  pub sofar-start : (used' : ℕ) → Keeps memory used [] memory used' → Sofar memory used block at memory used' at
-  sofar-start used' k = record { bytes = []; keeps = k; line = refl; ends = refl; place = omega arith }
+  pub sofar_start : (used' : ℕ) → Keeps memory used [] memory used' → Sofar memory used block at memory used' at
+  sofar_start used' k = record { bytes = []; keeps = k; line = refl; ends = refl; place = omega arith }
 
   module _ (memory' : List ℕ) (used' next : ℕ) (s : Sofar memory used block at memory' used' next) where
     rest-is : next < length block → drop next block ≡ get_or block next 0 ∷ drop (next + 1) block
     rest-is l = drop-cons block next 0 l ∙ ap (λ (k : ℕ). get_or block next 0 ∷ drop k block) (sym (add-one next))
 
-    pub sofar-more : next < length block → (get_or block next 0 ≡ 10 → ⊥) → (memory'' : List ℕ) (used'' : ℕ)
+    pub sofar_more : next < length block → (get_or block next 0 ≡ 10 → ⊥) → (memory'' : List ℕ) (used'' : ℕ)
         → Keeps memory' used' (get_or block next 0 ∷ []) memory'' used'' → Sofar memory used block at memory'' used'' (next + 1)
-    unfolding lineIn lineEnds
-    sofar-more l n memory'' used'' k =
+    unfolding line_in line_ends
+    sofar_more l n memory'' used'' k =
         let c = get_or block next 0 in
         let other = ne_eqb (get_or block next 0) 10 n in
         record {
@@ -193,74 +193,74 @@ module _ (memory : List ℕ) (used : ℕ) (block : List ℕ) (at : ℕ) where
           keeps = keeps-more memory used s.bytes memory' used' s.keeps (c ∷ []) memory'' used'' k;
           line =
               s.line
-              ∙ ap (λ (w : List ℕ). s.bytes ++ lineIn w) (rest-is l)
-              ∙ rw other (sym (append_assoc s.bytes (c ∷ []) (lineIn (drop (next + 1) block))));
-          ends = s.ends ∙ ap lineEnds (rest-is l) ∙ rw other refl;
+              ∙ ap (λ (w : List ℕ). s.bytes ++ line_in w) (rest-is l)
+              ∙ rw other (sym (append_assoc s.bytes (c ∷ []) (line_in (drop (next + 1) block))));
+          ends = s.ends ∙ ap line_ends (rest-is l) ∙ rw other refl;
           place = omega (arith, s.place, length-append s.bytes (c ∷ []));
         }
 
     -- a line feed ends the line
-    pub sofar-line : next < length block → get_or block next 0 ≡ 10 → Gathers memory used block at memory' used' (next + 1) true
-    unfolding lineIn lineEnds
-    sofar-line l e =
+    pub sofar_line : next < length block → get_or block next 0 ≡ 10 → Gathers memory used block at memory' used' (next + 1) true
+    unfolding line_in line_ends
+    sofar_line l e =
         let feed = eq-eqb (get_or block next 0) 10 e in
-        let line : lineIn (drop at block) ≡ s.bytes =
-        s.line ∙ ap (λ (w : List ℕ). s.bytes ++ lineIn w) (rest-is l) ∙ rw feed (append-nil s.bytes) in
+        let line : line_in (drop at block) ≡ s.bytes =
+        s.line ∙ ap (λ (w : List ℕ). s.bytes ++ line_in w) (rest-is l) ∙ rw feed (append-nil s.bytes) in
         record {
           front = rw line s.keeps;
-          told = sym (s.ends ∙ ap lineEnds (rest-is l) ∙ rw feed refl);
+          told = sym (s.ends ∙ ap line_ends (rest-is l) ∙ rw feed refl);
           place = rw line (omega (arith, s.place));
         }
 
     -- the block is over
-    pub sofar-over : length block ≤ next → Gathers memory used block at memory' used' (length block) false
-    unfolding lineIn lineEnds
-    sofar-over l =
+    pub sofar_over : length block ≤ next → Gathers memory used block at memory' used' (length block) false
+    unfolding line_in line_ends
+    sofar_over l =
         let over = drop_of_length-le block l in
-        let line : lineIn (drop at block) ≡ s.bytes =
-        s.line ∙ ap (λ (w : List ℕ). s.bytes ++ lineIn w) over ∙ append-nil s.bytes in
+        let line : line_in (drop at block) ≡ s.bytes =
+        s.line ∙ ap (λ (w : List ℕ). s.bytes ++ line_in w) over ∙ append-nil s.bytes in
         record {
           front = rw line s.keeps;
-          told = sym (s.ends ∙ ap lineEnds over);
+          told = sym (s.ends ∙ ap line_ends over);
           place = refl;
         }
 
 -- ---- the lines of an input, a block at a time
 
 -- no line ends in the bytes: they are a front of the next
-pub line-open : (bytes : List ℕ) → lineEnds bytes ≡ false → lineIn bytes ≡ bytes
-unfolding lineEnds lineIn
-line-open [] h = refl
-line-open (c ∷ cs) h = by (eqb c 10) h (line-open cs)
+pub line_open : (bytes : List ℕ) → line_ends bytes ≡ false → line_in bytes ≡ bytes
+unfolding line_ends line_in
+line_open [] h = refl
+line_open (c ∷ cs) h = by (eqb c 10) h (line_open cs)
   where
-    by : (b : Bool) → (b || lineEnds cs) ≡ false → (lineEnds cs ≡ false → lineIn cs ≡ cs) → cond b [] (c ∷ lineIn cs) ≡ c ∷ cs
+    by : (b : Bool) → (b || line_ends cs) ≡ false → (line_ends cs ≡ false → line_in cs ≡ cs) → cond b [] (c ∷ line_in cs) ≡ c ∷ cs
     by true f more = clash refl f
     by false f more = ap (λ (w : List ℕ). c ∷ w) (more f)
 
-pub lines-open : (begun bytes more : List ℕ) → lineEnds bytes ≡ false → linesAfter begun (bytes ++ more) ≡ linesAfter (begun ++ bytes) more
-unfolding lineEnds linesAfter
-lines-open begun [] more h = ap (λ (w : List ℕ). linesAfter w more) (sym (append-nil begun))
-lines-open begun (c ∷ cs) more h = by (eqb c 10) h (lines-open (begun ++ (c ∷ [])) cs more)
+pub lines_open : (begun bytes more : List ℕ) → line_ends bytes ≡ false → lines_after begun (bytes ++ more) ≡ lines_after (begun ++ bytes) more
+unfolding line_ends lines_after
+lines_open begun [] more h = ap (λ (w : List ℕ). lines_after w more) (sym (append-nil begun))
+lines_open begun (c ∷ cs) more h = by (eqb c 10) h (lines_open (begun ++ (c ∷ [])) cs more)
   where
-    by : (b : Bool) → (b || lineEnds cs) ≡ false
-        → (lineEnds cs ≡ false → linesAfter (begun ++ (c ∷ [])) (cs ++ more) ≡ linesAfter ((begun ++ (c ∷ [])) ++ cs) more)
-        → cond b (begun ∷ linesAfter [] (cs ++ more)) (linesAfter (begun ++ (c ∷ [])) (cs ++ more)) ≡ linesAfter (begun ++ (c ∷ cs)) more
+    by : (b : Bool) → (b || line_ends cs) ≡ false
+        → (line_ends cs ≡ false → lines_after (begun ++ (c ∷ [])) (cs ++ more) ≡ lines_after ((begun ++ (c ∷ [])) ++ cs) more)
+        → cond b (begun ∷ lines_after [] (cs ++ more)) (lines_after (begun ++ (c ∷ [])) (cs ++ more)) ≡ lines_after (begun ++ (c ∷ cs)) more
     by true f next = clash refl f
-    by false f next = next f ∙ ap (λ (w : List ℕ). linesAfter w more) (append_assoc begun (c ∷ []) cs)
+    by false f next = next f ∙ ap (λ (w : List ℕ). lines_after w more) (append_assoc begun (c ∷ []) cs)
 
 -- a line ends in them
-pub lines-ended : (begun bytes more : List ℕ) → lineEnds bytes ≡ true
-    → linesAfter begun (bytes ++ more) ≡ (begun ++ lineIn bytes) ∷ linesAfter [] (drop (suc (length (lineIn bytes))) bytes ++ more)
-unfolding lineEnds lineIn linesAfter
+pub lines-ended : (begun bytes more : List ℕ) → line_ends bytes ≡ true
+    → lines_after begun (bytes ++ more) ≡ (begun ++ line_in bytes) ∷ lines_after [] (drop (suc (length (line_in bytes))) bytes ++ more)
+unfolding line_ends line_in lines_after
 lines-ended begun [] more h = clash h refl
 lines-ended begun (c ∷ cs) more h = by (eqb c 10) h (lines-ended (begun ++ (c ∷ [])) cs more)
   where
-    by : (b : Bool) → (b || lineEnds cs) ≡ true
-        → (lineEnds cs ≡ true → linesAfter (begun ++ (c ∷ [])) (cs ++ more)
-        ≡ ((begun ++ (c ∷ [])) ++ lineIn cs) ∷ linesAfter [] (drop (suc (length (lineIn cs))) cs ++ more))
-        → cond b (begun ∷ linesAfter [] (cs ++ more)) (linesAfter (begun ++ (c ∷ [])) (cs ++ more))
-        ≡ (begun ++ cond b [] (c ∷ lineIn cs)) ∷ linesAfter [] (drop (suc (length (cond b [] (c ∷ lineIn cs)))) (c ∷ cs) ++ more)
-    by true f next = ap (λ (w : List ℕ). w ∷ linesAfter [] (cs ++ more)) (sym (append-nil begun))
+    by : (b : Bool) → (b || line_ends cs) ≡ true
+        → (line_ends cs ≡ true → lines_after (begun ++ (c ∷ [])) (cs ++ more)
+        ≡ ((begun ++ (c ∷ [])) ++ line_in cs) ∷ lines_after [] (drop (suc (length (line_in cs))) cs ++ more))
+        → cond b (begun ∷ lines_after [] (cs ++ more)) (lines_after (begun ++ (c ∷ [])) (cs ++ more))
+        ≡ (begun ++ cond b [] (c ∷ line_in cs)) ∷ lines_after [] (drop (suc (length (cond b [] (c ∷ line_in cs)))) (c ∷ cs) ++ more)
+    by true f next = ap (λ (w : List ℕ). w ∷ lines_after [] (cs ++ more)) (sym (append-nil begun))
     by false f next =
         next f
-        ∙ ap (λ (w : List ℕ). w ∷ linesAfter [] (drop (suc (length (lineIn cs))) cs ++ more)) (append_assoc begun (c ∷ []) (lineIn cs))
+        ∙ ap (λ (w : List ℕ). w ∷ lines_after [] (drop (suc (length (line_in cs))) cs ++ more)) (append_assoc begun (c ∷ []) (line_in cs))

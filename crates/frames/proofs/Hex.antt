@@ -11,7 +11,7 @@ use lib.ListN.{length, get_or, drop, drop_of_length-le}
 use lib.Seq.{drop-cons}
 use borrow.Author.Tests.{le-leb, lt-leb, ltb-true}
 use Rattle.simulation.proofs.Sets.{all_take}
-use Rattle.frames.specs.Digits.{digit, hexadecimal, numberFrom, number}
+use Rattle.frames.specs.Digits.{digit, hexadecimal, number_from, number}
 
 -- ---- the value of a byte
 
@@ -19,21 +19,21 @@ pub digit_low : (c : ℕ) → c < 48 → digit c ≡ 16
 unfolding digit
 digit_low c l = rw (lt-leb 48 c l, lt-leb 65 c (omega arith))
 
-pub digit-decimal : (c : ℕ) → 48 ≤ c → c ≤ 57 → digit c ≡ c - 48
+pub digit_decimal : (c : ℕ) → 48 ≤ c → c ≤ 57 → digit c ≡ c - 48
 unfolding digit
-digit-decimal c l h = rw (le-leb 48 c l, le-leb c 57 h)
+digit_decimal c l h = rw (le-leb 48 c l, le-leb c 57 h)
 
-pub digit-between : (c : ℕ) → 57 < c → c < 65 → digit c ≡ 16
+pub digit_between : (c : ℕ) → 57 < c → c < 65 → digit c ≡ 16
 unfolding digit
-digit-between c l h = rw (le-leb 48 c (omega arith), lt-leb c 57 l, lt-leb 65 c h)
+digit_between c l h = rw (le-leb 48 c (omega arith), lt-leb c 57 l, lt-leb 65 c h)
 
 pub digit-letter : (c : ℕ) → 65 ≤ c → c ≤ 70 → digit c ≡ c - 55
 unfolding digit
 digit-letter c l h = rw (le-leb 48 c (omega arith), lt-leb c 57 (omega arith), le-leb 65 c l, le-leb c 70 h)
 
-pub digit-high : (c : ℕ) → 70 < c → digit c ≡ 16
+pub digit_high : (c : ℕ) → 70 < c → digit c ≡ 16
 unfolding digit
-digit-high c l = rw (le-leb 48 c (omega arith), lt-leb c 57 (omega arith), le-leb 65 c (omega arith), lt-leb c 70 l)
+digit_high c l = rw (le-leb 48 c (omega arith), lt-leb c 57 (omega arith), le-leb 65 c (omega arith), lt-leb c 70 l)
 
 -- ---- a number, digit by digit
 
@@ -44,7 +44,7 @@ digit-fits ds h k l = ltb-true (digit (get_or ds k 0)) 16 (all_take (length ds) 
 -- the first k digits are read, with the value v: the rest after it makes the number
 pub record Reading (ds : List ℕ) (v k : ℕ) : Type 0 where
   pub inside : k ≤ length ds
-  pub rest : numberFrom v (drop k ds) ≡ number ds
+  pub rest : number_from v (drop k ds) ≡ number ds
   pub small : v < 16 ^ k
 
 module _ (ds : List ℕ) (hex : hexadecimal ds ≡ true) where
@@ -52,16 +52,16 @@ module _ (ds : List ℕ) (hex : hexadecimal ds ≡ true) where
   reading-start = record { inside = omega arith; rest = refl; small = omega arith }
 
   pub reading-more : (v k : ℕ) → Reading ds v k → k < length ds → Reading ds (v * 16 + digit (get_or ds k 0)) (k + 1)
-  unfolding numberFrom
+  unfolding number_from
   reading-more v k r l = record {
     inside = omega arith;
-    rest = ap (λ (j : ℕ). numberFrom (v * 16 + digit (get_or ds k 0)) (drop j ds)) (add-one k) ∙ sym (ap (numberFrom v) (drop-cons ds k 0 l)) ∙ r.rest;
+    rest = ap (λ (j : ℕ). number_from (v * 16 + digit (get_or ds k 0)) (drop j ds)) (add-one k) ∙ sym (ap (number_from v) (drop-cons ds k 0 l)) ∙ r.rest;
     small = rw (add-one k) (omega (arith, r.small, pow-suc 16 k, digit-fits ds hex k l));
   }
 
   pub reading-end : (v k : ℕ) → Reading ds v k → length ds ≤ k → v ≡ number ds
-  unfolding numberFrom
-  reading-end v k r l = sym (ap (numberFrom v) (drop_of_length-le ds l)) ∙ r.rest
+  unfolding number_from
+  reading-end v k r l = sym (ap (number_from v) (drop_of_length-le ds l)) ∙ r.rest
 
 -- one digit more than k fits n digits, where n is more than k
 pub reading-fits : (ds : List ℕ) (v k n : ℕ) → Reading ds v k → k < n → v * 16 + 15 < 16 ^ n

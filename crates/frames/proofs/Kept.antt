@@ -9,23 +9,23 @@ use mathlib.Core.List.{List, [], ◌∷◌, ◌++◌}
 use lib.ListN.{length, get_or, set, take, drop, length-set, length-drop}
 use lib.Pow.{pow_pos}
 use lib.Seq.{get_or-set_same, get_or-set_other, length-take-le, take-set-le, drop-set-lt, drop-set-add, take-suc-set}
-use Rattle.session.specs.Limits.{maxStates, maxNodes}
+use Rattle.session.specs.Limits.{max_states, max_nodes}
 use Rattle.session.specs.Layout.{part}
 use Rattle.frames.specs.Machine.{
   Memory,
-  invertedIn,
-  linksIn,
-  valuesIn,
-  samplesIn,
-  statesRead,
-  nodesRead,
+  inverted_in,
+  links_in,
+  values_in,
+  samples_in,
+  states_read,
+  nodes_read,
   Ready,
-  invertedRead,
-  readSoFar,
-  stateKept,
-  nodeKept,
+  inverted_read,
+  read_so_far,
+  state_kept,
+  node_kept,
 }
-use Rattle.frames.specs.Moments.{withState, withNode}
+use Rattle.frames.specs.Moments.{with_state, with_node}
 
 -- ---- a part of a list in which one place is written
 
@@ -42,8 +42,8 @@ module _ (xs : List ℕ) (at n a : ℕ) where
       (ap (take n) (drop-set-add at xs (i - at) a) ∙ take-set-le n (drop at xs) (i - at) a (omega arith))
 
   -- a place before it
-  part-ahead : (i : ℕ) → i < at → part (set xs i a) at n ≡ part xs at n
-  part-ahead i l = ap (take n) (drop-set-lt at xs i a l)
+  part_ahead : (i : ℕ) → i < at → part (set xs i a) at n ≡ part xs at n
+  part_ahead i l = ap (take n) (drop-set-lt at xs i a l)
 
 -- ---- the next bit
 
@@ -56,25 +56,25 @@ next_bit false w n = rw (add-one n) (omega (arith, mod-lt w (pow_pos n), pow-suc
 
 module _ (m : Memory) (r : Ready m) where
   abbrev n : ℕ
-  n = statesRead m
+  n = states_read m
 
   abbrev k : ℕ
-  k = nodesRead m
+  k = nodes_read m
 
   -- as many masks as states
-  pub masks-many : length (readSoFar m).masks ≡ statesRead m
-  unfolding readSoFar
-  masks-many = length-take-le n m.words (omega (arith, r.words, r.few-states))
+  pub masks-many : length (read_so_far m).masks ≡ states_read m
+  unfolding read_so_far
+  masks-many = length-take-le n m.words (omega (arith, r.words, r.few_states))
 
-  module _ (inverted : Bool) (mask value links : ℕ) (room : statesRead m < maxStates) where
+  module _ (inverted : Bool) (mask value links : ℕ) (room : states_read m < max_states) where
     abbrev linked : List ℕ
-    linked = set m.counts (linksIn + statesRead m) links
+    linked = set m.counts (links_in + states_read m) links
 
     abbrev turned : List ℕ
-    turned = set linked invertedIn (invertedRead m + cond inverted (2 ^ statesRead m) 0)
+    turned = set linked inverted_in (inverted_read m + cond inverted (2 ^ states_read m) 0)
 
     abbrev masked : List ℕ
-    masked = set m.words (statesRead m) mask
+    masked = set m.words (states_read m) mask
 
     turned-length : length turned ≡ length m.counts
     turned-length = simp length-set
@@ -82,79 +82,79 @@ module _ (m : Memory) (r : Ready m) where
     counted : get_or (set turned 1 (n + 1)) 1 0 ≡ n + 1
     counted = get_or-set_same turned 1 (n + 1) 0 (omega (arith, turned-length, r.counts))
 
-    others : (i : ℕ) → (i ≡ 1 → ⊥) → i < invertedIn → get_or (set turned 1 (n + 1)) i 0 ≡ get_or m.counts i 0
+    others : (i : ℕ) → (i ≡ 1 → ⊥) → i < inverted_in → get_or (set turned 1 (n + 1)) i 0 ≡ get_or m.counts i 0
     others i ne l =
         get_or-set_other turned 1 i (n + 1) 0 ne
-        ∙ get_or-set_other linked invertedIn i _ 0 (λ e. absurd (omega (arith, e)))
-        ∙ get_or-set_other m.counts (linksIn + n) i links 0 (λ e. absurd (omega (arith, e)))
+        ∙ get_or-set_other linked inverted_in i _ 0 (λ e. absurd (omega (arith, e)))
+        ∙ get_or-set_other m.counts (links_in + n) i links 0 (λ e. absurd (omega (arith, e)))
 
-    pub state-moment : get_or (stateKept m inverted mask value links).counts 0 0 ≡ get_or m.counts 0 0
+    pub state-moment : get_or (state_kept m inverted mask value links).counts 0 0 ≡ get_or m.counts 0 0
     state-moment = others 0 (λ e. absurd (omega (arith, e))) (omega arith)
 
     -- the inverted ones among the states read, the new state with them
-    state-inverted : invertedRead (stateKept m inverted mask value links) ≡ invertedRead m + cond inverted (2 ^ n) 0
+    state-inverted : inverted_read (state_kept m inverted mask value links) ≡ inverted_read m + cond inverted (2 ^ n) 0
     state-inverted =
         ap₂ (λ (w k : ℕ). w % 2 ^ k)
-        (get_or-set_other turned 1 invertedIn (n + 1) 0 (λ e. absurd (omega (arith, e)))
-        ∙ get_or-set_same linked invertedIn _ 0 (omega (arith, length-set m.counts (linksIn + n) links, r.counts)))
+        (get_or-set_other turned 1 inverted_in (n + 1) 0 (λ e. absurd (omega (arith, e)))
+        ∙ get_or-set_same linked inverted_in _ 0 (omega (arith, length-set m.counts (links_in + n) links, r.counts)))
         counted
-        ∙ mod-eq_of_lt (next_bit inverted (get_or m.counts invertedIn 0) n)
+        ∙ mod-eq_of_lt (next_bit inverted (get_or m.counts inverted_in 0) n)
 
-    pub state-read : readSoFar (stateKept m inverted mask value links) ≡ withState (readSoFar m) inverted mask value links
-    unfolding readSoFar
+    pub state-read : read_so_far (state_kept m inverted mask value links) ≡ with_state (read_so_far m) inverted mask value links
+    unfolding read_so_far
     state-read =
-        let masks : part (set masked (valuesIn + n) value) 0 (n + 1) ≡ part m.words 0 n ++ (mask ∷ []) =
-        part-past masked 0 (n + 1) value (valuesIn + n) (omega arith)
+        let masks : part (set masked (values_in + n) value) 0 (n + 1) ≡ part m.words 0 n ++ (mask ∷ []) =
+        part-past masked 0 (n + 1) value (values_in + n) (omega arith)
         ∙ ap (λ (i : ℕ). part (set m.words i mask) 0 (n + 1)) (let e : n ≡ 0 + n = omega arith in e)
         ∙ part-more m.words 0 n mask (omega (arith, r.words)) in
-        let values : part (set masked (valuesIn + n) value) valuesIn (n + 1) ≡ part m.words valuesIn n ++ (value ∷ []) =
-        part-more masked valuesIn n value (omega (arith, length-set m.words n mask, r.words))
-        ∙ ap (λ (ws : List ℕ). ws ++ (value ∷ [])) (part-ahead m.words valuesIn n mask n (omega arith)) in
-        let linkeds : part (set turned 1 (n + 1)) linksIn (n + 1) ≡ part m.counts linksIn n ++ (links ∷ []) =
-        part-ahead turned linksIn (n + 1) (n + 1) 1 (omega arith)
-        ∙ part-ahead linked linksIn (n + 1) _ invertedIn (omega arith)
-        ∙ part-more m.counts linksIn n links (omega (arith, r.counts)) in
-        let samples : part (set masked (valuesIn + n) value) samplesIn k ≡ part m.words samplesIn k =
-        part-ahead masked samplesIn k value (valuesIn + n) (omega arith) ∙ part-ahead m.words samplesIn k mask n (omega arith) in
+        let values : part (set masked (values_in + n) value) values_in (n + 1) ≡ part m.words values_in n ++ (value ∷ []) =
+        part-more masked values_in n value (omega (arith, length-set m.words n mask, r.words))
+        ∙ ap (λ (ws : List ℕ). ws ++ (value ∷ [])) (part_ahead m.words values_in n mask n (omega arith)) in
+        let linkeds : part (set turned 1 (n + 1)) links_in (n + 1) ≡ part m.counts links_in n ++ (links ∷ []) =
+        part_ahead turned links_in (n + 1) (n + 1) 1 (omega arith)
+        ∙ part_ahead linked links_in (n + 1) _ inverted_in (omega arith)
+        ∙ part-more m.counts links_in n links (omega (arith, r.counts)) in
+        let samples : part (set masked (values_in + n) value) samples_in k ≡ part m.words samples_in k =
+        part_ahead masked samples_in k value (values_in + n) (omega arith) ∙ part_ahead m.words samples_in k mask n (omega arith) in
         rw (state-inverted, counted, others 2 (λ e. absurd (omega (arith, e))) (omega arith), masks, values, linkeds, samples, masks-many)
 
-    pub state-ready : Ready (stateKept m inverted mask value links)
+    pub state-ready : Ready (state_kept m inverted mask value links)
     state-ready = record {
       counts = omega (arith, r.counts, length-set turned 1 (n + 1), turned-length);
-      words = omega (arith, r.words, length-set masked (valuesIn + n) value, length-set m.words n mask);
+      words = omega (arith, r.words, length-set masked (values_in + n) value, length-set m.words n mask);
       session = r.session;
-      few-states = omega (arith, counted);
-      few-nodes = omega (arith, others 2 (λ e. absurd (omega (arith, e))) (omega arith), r.few-nodes);
+      few_states = omega (arith, counted);
+      few_nodes = omega (arith, others 2 (λ e. absurd (omega (arith, e))) (omega arith), r.few_nodes);
     }
 
-  module _ (sample : ℕ) (room : nodesRead m < maxNodes) where
+  module _ (sample : ℕ) (room : nodes_read m < max_nodes) where
     node-counted : get_or (set m.counts 2 (k + 1)) 2 0 ≡ k + 1
     node-counted = get_or-set_same m.counts 2 (k + 1) 0 (omega (arith, r.counts))
 
     node-others : (i : ℕ) → (i ≡ 2 → ⊥) → get_or (set m.counts 2 (k + 1)) i 0 ≡ get_or m.counts i 0
     node-others i ne = get_or-set_other m.counts 2 i (k + 1) 0 ne
 
-    pub node-moment : get_or (nodeKept m sample).counts 0 0 ≡ get_or m.counts 0 0
+    pub node-moment : get_or (node_kept m sample).counts 0 0 ≡ get_or m.counts 0 0
     node-moment = node-others 0 (λ e. absurd (omega (arith, e)))
 
-    pub node-read : readSoFar (nodeKept m sample) ≡ withNode (readSoFar m) sample
-    unfolding readSoFar
+    pub node-read : read_so_far (node_kept m sample) ≡ with_node (read_so_far m) sample
+    unfolding read_so_far
     node-read =
         rw (
           node-counted,
           node-others 1 (λ e. absurd (omega (arith, e))),
-          node-others invertedIn (λ e. absurd (omega (arith, e))),
-          part-past m.words 0 n sample (samplesIn + k) (omega (arith, r.few-states)),
-          part-past m.words valuesIn n sample (samplesIn + k) (omega (arith, r.few-states)),
-          part-ahead m.counts linksIn n (k + 1) 2 (omega arith),
-          part-more m.words samplesIn k sample (omega (arith, r.words)),
+          node-others inverted_in (λ e. absurd (omega (arith, e))),
+          part-past m.words 0 n sample (samples_in + k) (omega (arith, r.few_states)),
+          part-past m.words values_in n sample (samples_in + k) (omega (arith, r.few_states)),
+          part_ahead m.counts links_in n (k + 1) 2 (omega arith),
+          part-more m.words samples_in k sample (omega (arith, r.words)),
         )
 
-    pub node-ready : Ready (nodeKept m sample)
+    pub node-ready : Ready (node_kept m sample)
     node-ready = record {
       counts = omega (arith, r.counts, length-set m.counts 2 (k + 1));
-      words = omega (arith, r.words, length-set m.words (samplesIn + k) sample);
+      words = omega (arith, r.words, length-set m.words (samples_in + k) sample);
       session = r.session;
-      few-states = omega (arith, node-others 1 (λ e. absurd (omega (arith, e))), r.few-states);
-      few-nodes = omega (arith, node-counted);
+      few_states = omega (arith, node-others 1 (λ e. absurd (omega (arith, e))), r.few_states);
+      few_nodes = omega (arith, node-counted);
     }

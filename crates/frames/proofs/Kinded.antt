@@ -8,17 +8,17 @@ use lib.Dec.{ltb, leb, eqb}
 use lib.ListN.{length, get_or, take, drop, length-take, length-drop}
 use lib.Seq.{get_or-take, get_or-drop}
 use borrow.Author.Tests.{eq-eqb, ne_eqb, le-leb, lt-leb, lt-ltb, not-true}
-use Rattle.simulation.proofs.Sets.{all-make}
+use Rattle.simulation.proofs.Sets.{all_make}
 use Rattle.promises.specs.Rules.{insertion, deletion}
 use Rattle.frames.specs.Digits.{digit, hexadecimal, number}
 use Rattle.frames.specs.Frames.{state, node, run, edit, walk, nothing, field, wide, spoken, frame_of}
 use Rattle.frames.proofs.Hex.{digit-fits}
 
 -- a part of digits is of digits
-pub hex-part : (bs : List ℕ) (at n : ℕ) → hexadecimal bs ≡ true → at + n ≤ length bs → hexadecimal (take n (drop at bs)) ≡ true
+pub hex_part : (bs : List ℕ) (at n : ℕ) → hexadecimal bs ≡ true → at + n ≤ length bs → hexadecimal (take n (drop at bs)) ≡ true
 unfolding hexadecimal
-hex-part bs at n h room =
-    all-make (length (take n (drop at bs))) (λ i. ltb (digit (get_or (take n (drop at bs)) i 0)) 16)
+hex_part bs at n h room =
+    all_make (length (take n (drop at bs))) (λ i. ltb (digit (get_or (take n (drop at bs)) i 0)) 16)
     (λ i l.
     let k : i < n = omega (arith, length-take n (drop at bs), length-drop at bs) in
     ap (λ (c : ℕ). ltb (digit c) 16) (get_or-take n (drop at bs) i 0 k ∙ get_or-drop at bs i 0)
@@ -28,36 +28,36 @@ hex-part bs at n h room =
 pub some-digits : (bs : List ℕ) (at end most : ℕ) → hexadecimal bs ≡ true → at ≤ end → end ≤ length bs → end - at ≤ most
     → (length (take (end - at) (drop at bs)) ≤ most) × (hexadecimal (take (end - at) (drop at bs)) ≡ true)
 some-digits bs at end most h on inside few =
-    (omega (arith, length-take (end - at) (drop at bs)), hex-part bs at (end - at) h (omega arith))
+    (omega (arith, length-take (end - at) (drop at bs)), hex_part bs at (end - at) h (omega arith))
 
-pub field-between : (ds : List ℕ) (at end n : ℕ) → end ≡ at + n → number (take (end - at) (drop at ds)) ≡ field n ds at
-field-between ds at end n e = let long : end - at ≡ n = omega arith in ap (λ (k : ℕ). number (take k (drop at ds))) long
+pub field_between : (ds : List ℕ) (at end n : ℕ) → end ≡ at + n → number (take (end - at) (drop at ds)) ≡ field n ds at
+field_between ds at end n e = let long : end - at ≡ n = omega arith in ap (λ (k : ℕ). number (take k (drop at ds))) long
 
 module _ (ds : List ℕ) where
   -- ---- fields of a wrong length
 
-  pub state-wrong : (b : Bool) → (length ds ≡ 12 → ⊥) → nothing ≡ spoken (cond b 7 1) ds
+  pub state_wrong : (b : Bool) → (length ds ≡ 12 → ⊥) → nothing ≡ spoken (cond b 7 1) ds
   unfolding spoken
-  state-wrong true h = rw (ne_eqb (length ds) 12 h)
-  state-wrong false h = rw (ne_eqb (length ds) 12 h)
+  state_wrong true h = rw (ne_eqb (length ds) 12 h)
+  state_wrong false h = rw (ne_eqb (length ds) 12 h)
 
-  pub wide-wrong : (length ds ≡ 18 → ⊥) → nothing ≡ spoken 10 ds
+  pub wide_wrong : (length ds ≡ 18 → ⊥) → nothing ≡ spoken 10 ds
   unfolding spoken
-  wide-wrong h = rw (ne_eqb (length ds) 18 h)
+  wide_wrong h = rw (ne_eqb (length ds) 18 h)
 
-  pub node-wrong : (length ds ≡ 4 → ⊥) → nothing ≡ spoken 2 ds
+  pub node_wrong : (length ds ≡ 4 → ⊥) → nothing ≡ spoken 2 ds
   unfolding spoken
-  node-wrong h = rw (ne_eqb (length ds) 4 h)
+  node_wrong h = rw (ne_eqb (length ds) 4 h)
 
-  pub edge-wrong : (b : Bool) → (length ds ≡ 8 → ⊥) → nothing ≡ spoken (cond b 4 5) ds
+  pub edge_wrong : (b : Bool) → (length ds ≡ 8 → ⊥) → nothing ≡ spoken (cond b 4 5) ds
   unfolding spoken
-  edge-wrong true h = rw (ne_eqb (length ds) 8 h)
-  edge-wrong false h = rw (ne_eqb (length ds) 8 h)
+  edge_wrong true h = rw (ne_eqb (length ds) 8 h)
+  edge_wrong false h = rw (ne_eqb (length ds) 8 h)
 
-  pub bare-wrong : (b : Bool) → (length ds ≡ 0 → ⊥) → nothing ≡ spoken (cond b 3 6) ds
+  pub bare_wrong : (b : Bool) → (length ds ≡ 0 → ⊥) → nothing ≡ spoken (cond b 3 6) ds
   unfolding spoken
-  bare-wrong true h = rw (ne_eqb (length ds) 0 h)
-  bare-wrong false h = rw (ne_eqb (length ds) 0 h)
+  bare_wrong true h = rw (ne_eqb (length ds) 0 h)
+  bare_wrong false h = rw (ne_eqb (length ds) 0 h)
 
   -- ---- and of the right one
 
@@ -67,9 +67,9 @@ module _ (ds : List ℕ) where
   state-right false e = rw (eq-eqb (length ds) 12 e)
 
   -- an inversion byte that is neither 00 nor 01, and one that is
-  pub wide-other : length ds ≡ 18 → 1 < field 2 ds 0 → nothing ≡ spoken 10 ds
+  pub wide_other : length ds ≡ 18 → 1 < field 2 ds 0 → nothing ≡ spoken 10 ds
   unfolding spoken wide
-  wide-other e l = rw (eq-eqb (length ds) 18 e, lt-leb (field 2 ds 0) 1 l)
+  wide_other e l = rw (eq-eqb (length ds) 18 e, lt-leb (field 2 ds 0) 1 l)
 
   pub wide-right : length ds ≡ 18 → field 2 ds 0 ≤ 1 → state (eqb (field 2 ds 0) 1) (field 4 ds 2) (field 4 ds 6) (field 8 ds 10) ≡ spoken 10 ds
   unfolding spoken wide
@@ -83,9 +83,9 @@ module _ (ds : List ℕ) where
   unfolding spoken
   insert-right e = rw (eq-eqb (length ds) 8 e)
 
-  pub delete-right : length ds ≡ 8 → edit deletion (field 4 ds 0) (field 4 ds 4) ≡ spoken 5 ds
+  pub delete_right : length ds ≡ 8 → edit deletion (field 4 ds 0) (field 4 ds 4) ≡ spoken 5 ds
   unfolding spoken
-  delete-right e = rw (eq-eqb (length ds) 8 e)
+  delete_right e = rw (eq-eqb (length ds) 8 e)
 
   pub run-right : length ds ≡ 0 → run ≡ spoken 3 ds
   unfolding spoken
@@ -97,10 +97,10 @@ module _ (ds : List ℕ) where
 
   -- ---- no other kind
 
-  pub kind-other : (k : ℕ) → (k ≡ 1 → ⊥) → (k ≡ 2 → ⊥) → (k ≡ 3 → ⊥) → (k ≡ 4 → ⊥) → (k ≡ 5 → ⊥) → (k ≡ 6 → ⊥) → (k ≡ 7 → ⊥) → (k ≡ 10 → ⊥)
+  pub kind_other : (k : ℕ) → (k ≡ 1 → ⊥) → (k ≡ 2 → ⊥) → (k ≡ 3 → ⊥) → (k ≡ 4 → ⊥) → (k ≡ 5 → ⊥) → (k ≡ 6 → ⊥) → (k ≡ 7 → ⊥) → (k ≡ 10 → ⊥)
       → nothing ≡ spoken k ds
   unfolding spoken
-  kind-other k a b c d e f g h = rw (ne_eqb k 1 a, ne_eqb k 2 b, ne_eqb k 3 c, ne_eqb k 4 d, ne_eqb k 5 e, ne_eqb k 6 f, ne_eqb k 7 g, ne_eqb k 10 h)
+  kind_other k a b c d e f g h = rw (ne_eqb k 1 a, ne_eqb k 2 b, ne_eqb k 3 c, ne_eqb k 4 d, ne_eqb k 5 e, ne_eqb k 6 f, ne_eqb k 7 g, ne_eqb k 10 h)
 
 -- ---- a line
 

@@ -12,7 +12,7 @@ use lib.Seq.{take-suc, take_all, length-take-le}
 use Rattle.listing.specs.Placed.{Placed}
 use Rattle.listing.proofs.Placing.{placed-start, placed-append, placed-long}
 use Rattle.frames.specs.Digits.{digits}
-use Rattle.frames.specs.Outputs.{complement, reportLine, reportSize, changed, changeSize, each}
+use Rattle.frames.specs.Outputs.{complement, report_line, report_size, changed, change_size, each}
 use Rattle.frames.proofs.Written.{digits_long, pair-long}
 
 module _ {A : Type 0} (f : A → List ℕ) where
@@ -45,25 +45,25 @@ module _ {A : Type 0} (f : A → List ℕ) where
     listing_start = record { inside = omega arith; placed = placed-start entry at }
 
     -- where the next one goes, and that there is room for it
-    pub listing-next : (out : List ℕ) (next k : ℕ) → Listing xs entry at out next k → next ≡ at + k * n
-    listing-next out next k l =
+    pub listing_next : (out : List ℕ) (next k : ℕ) → Listing xs entry at out next k → next ≡ at + k * n
+    listing_next out next k l =
         l.placed.past ∙ ap (λ (m : ℕ). at + m) (each_long n sizes (take k xs) ∙ ap (λ (m : ℕ). m * n) (length-take-le k xs l.inside))
 
-    pub listing-long : (out : List ℕ) (next k : ℕ) → Listing xs entry at out next k → at + k * n ≤ length entry → length out ≡ length entry
-    listing-long out next k l room = placed-long l.placed (subst (λ (m : ℕ). m ≤ length entry) (sym (listing-next out next k l)) room)
+    pub listing_long : (out : List ℕ) (next k : ℕ) → Listing xs entry at out next k → at + k * n ≤ length entry → length out ≡ length entry
+    listing_long out next k l room = placed-long l.placed (subst (λ (m : ℕ). m ≤ length entry) (sym (listing_next out next k l)) room)
 
-    pub listing-more : (out : List ℕ) (next k : ℕ) (d : A) (out' : List ℕ) (next' : ℕ) → Listing xs entry at out next k → k < length xs
+    pub listing_more : (out : List ℕ) (next k : ℕ) (d : A) (out' : List ℕ) (next' : ℕ) → Listing xs entry at out next k → k < length xs
         → Placed out next (f (get_or xs k d)) out' next' → Listing xs entry at out' next' (k + 1)
-    listing-more out next k d out' next' l less p = record {
+    listing_more out next k d out' next' l less p = record {
       inside = omega arith;
       placed = subst (λ (w : List ℕ). Placed entry at w out' next') (sym (each_more xs k d less)) (placed-append near l.placed p);
     }
 
-    pub listing-end : (out : List ℕ) (next k : ℕ) → Listing xs entry at out next k → length xs ≤ k → Placed entry at (each f xs) out next
-    listing-end out next k l all = subst (λ (w : List A). Placed entry at (each f w) out next) (take_all k xs all) l.placed
+    pub listing_end : (out : List ℕ) (next k : ℕ) → Listing xs entry at out next k → length xs ≤ k → Placed entry at (each f xs) out next
+    listing_end out next k l all = subst (λ (w : List A). Placed entry at (each f w) out next) (take_all k xs all) l.placed
 
 -- the bytes of a change
-pub changed-long : (z : ℤ) → length (changed z) ≡ changeSize
+pub changed-long : (z : ℤ) → length (changed z) ≡ change_size
 unfolding changed
 changed-long z =
     length-append (digits 2 129) (digits 8 (complement z) ++ (10 ∷ []))
@@ -74,8 +74,8 @@ pub states-long : (kind : ℕ) (us : List ℕ) → length (digits 2 kind ++ each
 states-long kind us = length-append (digits 2 kind) (each (digits 2) us) ∙ ap₂ ◌+◌ (digits_long 2 kind) (each_long (digits 2) 2 (digits_long 2) us)
 
 -- and of a report
-pub report-long : (fires : Bool) (trials changes : ℕ) → length (reportLine fires trials changes) ≡ reportSize
-unfolding reportLine
+pub report-long : (fires : Bool) (trials changes : ℕ) → length (report_line fires trials changes) ≡ report_size
+unfolding report_line
 report-long fires trials changes =
     let counts = digits 4 trials ++ digits 4 changes in
     let fields = digits 2 (cond fires 1 0) ++ counts in

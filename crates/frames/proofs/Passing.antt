@@ -10,44 +10,44 @@ use lib.ListN.{length, get_or, take, drop, length-append, length-take, length-dr
 use lib.Seq.{take_all}
 use borrow.Author.Tests.{ltb-false, lt-ltb, le-ltb}
 use Rattle.simulation.proofs.Sets.{clash}
-use Rattle.session.specs.Limits.{maxChanges}
+use Rattle.session.specs.Limits.{max_changes}
 use Rattle.promises.specs.Answers.{accepted, refused}
 use Rattle.promises.specs.Rules.{rule, verdict}
-use Rattle.promises.proofs.Verdicts.{accepts-or, verdict-pass, verdict-skip, row-passed, row-broken}
+use Rattle.promises.proofs.Verdicts.{accepts-or, verdict_pass, verdict_skip, row-passed, row-broken}
 use Rattle.frames.specs.declared.Progress.{Progress}
 use Rattle.frames.specs.declared.Taken.TheVariants as T
 use Rattle.frames.specs.Frames.{Frame, state, node, run, edit, walk, nothing, frame_of}
-use Rattle.frames.specs.Lines.{lineEnds, lineIn, frontSize, Keeps, Gathers}
-use Rattle.frames.specs.Machine.{Memory, memory, outputSize, memoryRules, Prints, Before, After, Answers, Stepped}
+use Rattle.frames.specs.Lines.{line_ends, line_in, front_size, Keeps, Gathers}
+use Rattle.frames.specs.Machine.{Memory, memory, output_size, memory_rules, Prints, Before, After, Answers, Stepped}
 use Rattle.frames.specs.Program.{Fresh}
-use Rattle.frames.specs.Blocks.{inputRules, Point, point, outputAfter, withOutput, GoesOn, Passes, stops, begins, answers, Refuses, BlockTaken, InputEnded}
+use Rattle.frames.specs.Blocks.{input_rules, Point, point, output_after, with_output, GoesOn, Passes, stops, begins, answers, Refuses, BlockTaken, InputEnded}
 use Rattle.frames.proofs.Fronts.{keeps-long, keeps_same}
 use Rattle.frames.proofs.Takes.{Counted, Passed, rules-passed, passed-rules, answers-counted, taken-line}
 
 -- ---- the rules of the lent memory
 
 module _ (m : Memory) (front : List ℕ) where
-  pub input-passed : verdict (inputRules m front) ≡ 0 → Passed m × (frontSize ≤ length front)
-  input-passed ok =
-      let first = verdict-pass 3 (ltb (length front) frontSize) (memoryRules m) (omega arith) ok in
-      (rules-passed m first.1, ltb-false (length front) frontSize first.0)
+  pub input_passed : verdict (input_rules m front) ≡ 0 → Passed m × (front_size ≤ length front)
+  input_passed ok =
+      let first = verdict_pass 3 (ltb (length front) front_size) (memory_rules m) (omega arith) ok in
+      (rules-passed m first.1, ltb-false (length front) front_size first.0)
 
-  pub passed-input : Passed m → frontSize ≤ length front → verdict (inputRules m front) ≡ 0
-  passed-input p long =
-      verdict-skip 3 (ltb (length front) frontSize) (memoryRules m) (le-ltb (length front) frontSize long) ∙ passed-rules m p
+  pub passed_input : Passed m → front_size ≤ length front → verdict (input_rules m front) ≡ 0
+  passed_input p long =
+      verdict_skip 3 (ltb (length front) front_size) (memory_rules m) (le-ltb (length front) front_size long) ∙ passed-rules m p
 
 -- memory at its start breaks none, with a room, an output and a front that are long enough
-pub fresh-passed : (m : Memory) (front : List ℕ) → Fresh m → maxChanges ≤ length m.room → outputSize ≤ length m.out → frontSize ≤ length front
-    → verdict (inputRules m front) ≡ 0
+pub fresh-passed : (m : Memory) (front : List ℕ) → Fresh m → max_changes ≤ length m.room → output_size ≤ length m.out → front_size ≤ length front
+    → verdict (input_rules m front) ≡ 0
 fresh-passed m front f room out long =
-    passed-input m front
+    passed_input m front
     record {
       ready = record {
         counts = f.counts;
         words = f.words;
         session = f.session;
-        few-states = omega (arith, f.states);
-        few-nodes = omega (arith, f.nodes);
+        few_states = omega (arith, f.states);
+        few_nodes = omega (arith, f.nodes);
       };
       counted = (omega (arith, f.moment), omega (arith, f.states), omega (arith, f.nodes));
       room = room;
@@ -56,17 +56,17 @@ fresh-passed m front f room out long =
     long
 
 -- a memory that a line was answered in breaks no rule of its own
-pub unrefused : (m : Memory) (line : List ℕ) (n : ℕ) (left : Memory) → Stepped m line (T.Written n) left → verdict (memoryRules m) ≡ 0
+pub unrefused : (m : Memory) (line : List ℕ) (n : ℕ) (left : Memory) → Stepped m line (T.Written n) left → verdict (memory_rules m) ≡ 0
 unrefused m line n left s =
     ⊎_elim (λ ok. ok)
     (λ bad.
-    let e : accepted n ≡ refused (verdict (memoryRules m)) = (s.refuses bad).0 in
+    let e : accepted n ≡ refused (verdict (memory_rules m)) = (s.refuses bad).0 in
     let z : ◌≡◌ {A = ℕ} 0 1 = cc (e) in
     absurd (omega arith))
-    (accepts-or (verdict (memoryRules m)))
+    (accepts-or (verdict (memory_rules m)))
 
-stepped-answers : (m : Memory) (line : List ℕ) (n : ℕ) (left : Memory) → Stepped m line (T.Written n) left → Answers m line n left
-stepped-answers m line n left s =
+stepped_answers : (m : Memory) (line : List ℕ) (n : ℕ) (left : Memory) → Stepped m line (T.Written n) left → Answers m line n left
+stepped_answers m line n left s =
     let a = s.answers (unrefused m line n left s) in
     let e : accepted n ≡ accepted a.0 = a.1 in
     let same : n ≡ a.0 = cc (e) in
@@ -111,14 +111,14 @@ pub record SameLengths (m m' : Memory) : Type 0 where
   pub room : length m'.room ≡ length m.room
   pub out : length m'.out ≡ length m.out
 
-still-passed : (m m' : Memory) → Passed m → SameLengths m m' → Counted m'.counts → Passed m'
-still-passed m m' p s c = record {
+still_passed : (m m' : Memory) → Passed m → SameLengths m m' → Counted m'.counts → Passed m'
+still_passed m m' p s c = record {
   ready = record {
     counts = omega (arith, p.ready.counts, s.counts);
     words = omega (arith, p.ready.words, s.words);
     session = omega (arith, p.ready.session, s.session);
-    few-states = c.1;
-    few-nodes = c.2;
+    few_states = c.1;
+    few_nodes = c.2;
   };
   counted = c;
   room = omega (arith, p.room, s.room);
@@ -129,35 +129,35 @@ still-passed m m' p s c = record {
 pub record Upto (block : List ℕ) (start p : Point) : Type 0 where
   pub goes : (q : Point) → Passes block p q → Passes block start q
   pub passed : Passed p.memory
-  pub front : frontSize ≤ length p.front
+  pub front : front_size ≤ length p.front
   pub inside : p.written ≤ length p.memory.out
 
 module _ (block : List ℕ) where
-  pub pass-start : (front : List ℕ) (begun : ℕ) (m : Memory) → verdict (inputRules m front) ≡ 0
+  pub pass_start : (front : List ℕ) (begun : ℕ) (m : Memory) → verdict (input_rules m front) ≡ 0
       → Upto block (point front begun 0 0 m) (point front begun 0 0 m)
-  pass-start front begun m ok =
-      let i = input-passed m front ok in
+  pass_start front begun m ok =
+      let i = input_passed m front ok in
       record { goes = λ q w. w; passed = i.0; front = i.1; inside = omega arith }
 
   module _ (start p : Point) (s : Upto block start p) (on : GoesOn block p) (front' : List ℕ) (begun' at' : ℕ) where
-    front-stays : (e : Bool) → Gathers p.front p.begun block p.at front' begun' at' e → frontSize ≤ length front'
-    front-stays e g = let k = keeps-long p.front p.begun _ front' begun' g.front in omega (arith, k, s.front)
+    front_stays : (e : Bool) → Gathers p.front p.begun block p.at front' begun' at' e → front_size ≤ length front'
+    front_stays e g = let k = keeps-long p.front p.begun _ front' begun' g.front in omega (arith, k, s.front)
 
-    pass-begins : Gathers p.front p.begun block p.at front' begun' at' false
+    pass_begins : Gathers p.front p.begun block p.at front' begun' at' false
         → Upto block start (point front' begun' at' p.written p.memory)
-    pass-begins g = record {
+    pass_begins g = record {
       goes = λ q w. s.goes q (begins front' begun' at' on g w);
       passed = s.passed;
-      front = front-stays false g;
+      front = front_stays false g;
       inside = s.inside;
     }
 
-    pub pass-open : (e : Bool) → e ≡ false → Gathers p.front p.begun block p.at front' begun' at' e
+    pub pass_open : (e : Bool) → e ≡ false → Gathers p.front p.begun block p.at front' begun' at' e
         → Upto block start (point front' begun' at' p.written p.memory)
-    pass-open e z g = pass-begins (subst (λ (b : Bool). Gathers p.front p.begun block p.at front' begun' at' b) z g)
+    pass_open e z g = pass_begins (subst (λ (b : Bool). Gathers p.front p.begun block p.at front' begun' at' b) z g)
 
     -- the memory that a line is answered in
-    lent-passed : Passed (outputAfter p.written p.memory)
+    lent-passed : Passed (output_after p.written p.memory)
     lent-passed =
         let h = s.passed in
         record {
@@ -165,16 +165,16 @@ module _ (block : List ℕ) where
             counts = h.ready.counts;
             words = h.ready.words;
             session = h.ready.session;
-            few-states = h.ready.few-states;
-            few-nodes = h.ready.few-nodes;
+            few_states = h.ready.few_states;
+            few_nodes = h.ready.few_nodes;
           };
           counted = h.counted;
           room = h.room;
           out = omega (arith, on.1, length-drop p.written p.memory.out);
         }
 
-    module _ (n : ℕ) (left : Memory) (a : Answers (outputAfter p.written p.memory) (take begun' front') n left)
-        (same : SameLengths (outputAfter p.written p.memory) left) where
+    module _ (n : ℕ) (left : Memory) (a : Answers (output_after p.written p.memory) (take begun' front') n left)
+        (same : SameLengths (output_after p.written p.memory) left) where
       -- the whole output is as long as it was
       out-long : length (take p.written p.memory.out ++ left.out) ≡ length p.memory.out
       out-long =
@@ -183,19 +183,19 @@ module _ (block : List ℕ) where
 
       written-fits : p.written + n ≤ length p.memory.out
       written-fits =
-          let f = answers-fit (outputAfter p.written p.memory) (take begun' front') n left lent-passed.counted a in
+          let f = answers-fit (output_after p.written p.memory) (take begun' front') n left lent-passed.counted a in
           omega (arith, f, same.out, s.inside, length-drop p.written p.memory.out)
 
-      pass-answers : Gathers p.front p.begun block p.at front' begun' at' true
-          → Upto block start (point front' 0 at' (p.written + n) (withOutput (take p.written p.memory.out) left))
-      pass-answers g =
-          let mine = outputAfter p.written p.memory in
+      pass_answers : Gathers p.front p.begun block p.at front' begun' at' true
+          → Upto block start (point front' 0 at' (p.written + n) (with_output (take p.written p.memory.out) left))
+      pass_answers g =
+          let mine = output_after p.written p.memory in
           let c = answers-counted mine left n lent-passed.ready lent-passed.counted (take begun' front') a in
           record {
             goes = λ q w. s.goes q (answers front' begun' at' n left on g (taken-line mine (take begun' front') n left (passed-rules mine lent-passed) a) w);
-            passed = still-passed p.memory (withOutput (take p.written p.memory.out) left) s.passed
+            passed = still_passed p.memory (with_output (take p.written p.memory.out) left) s.passed
                 record { counts = same.counts; words = same.words; session = same.session; room = same.room; out = out-long } c;
-            front = front-stays true g;
+            front = front_stays true g;
             inside = omega (arith, written-fits, out-long);
           }
 
@@ -205,19 +205,19 @@ module _ (block : List ℕ) where
         memory p.memory.counts p.memory.words p.memory.session p.memory.room
         (take (length p.memory.out - p.written) (drop p.written p.memory.out))
 
-    part-is : part ≡ outputAfter p.written p.memory
+    part-is : part ≡ output_after p.written p.memory
     part-is =
         ap (memory p.memory.counts p.memory.words p.memory.session p.memory.room)
         (take_all (length p.memory.out - p.written) (drop p.written p.memory.out) (omega (arith, length-drop p.written p.memory.out)))
 
-    pub part-passed : verdict (memoryRules part) ≡ 0
-    part-passed = subst (λ (m : Memory). verdict (memoryRules m) ≡ 0) (sym part-is) (passed-rules (outputAfter p.written p.memory) lent-passed)
+    pub part-passed : verdict (memory_rules part) ≡ 0
+    part-passed = subst (λ (m : Memory). verdict (memory_rules m) ≡ 0) (sym part-is) (passed-rules (output_after p.written p.memory) lent-passed)
 
     module _ (n : ℕ) (left : Memory) (a : Answers part (take begun' front') n left) (same : SameLengths part left) where
-      a' : Answers (outputAfter p.written p.memory) (take begun' front') n left
+      a' : Answers (output_after p.written p.memory) (take begun' front') n left
       a' = subst (λ (m : Memory). Answers m (take begun' front') n left) part-is a
 
-      same' : SameLengths (outputAfter p.written p.memory) left
+      same' : SameLengths (output_after p.written p.memory) left
       same' = subst (λ (m : Memory). SameLengths m left) part-is same
 
       pub part-fits : p.written + n ≤ length p.memory.out
@@ -241,10 +241,10 @@ module _ (block : List ℕ) where
             s.inside,
           )
 
-      pub pass-line : (e : Bool) → e ≡ true → Gathers p.front p.begun block p.at front' begun' at' e
+      pub pass_line : (e : Bool) → e ≡ true → Gathers p.front p.begun block p.at front' begun' at' e
           → Upto block start (point front' 0 at' (p.written + n) (memory left.counts left.words left.session left.room
           (take p.written p.memory.out ++ (left.out ++ drop (length p.memory.out - p.written) (drop p.written p.memory.out)))))
-      pass-line e z g =
+      pass_line e z g =
           let none : left.out ++ drop (length p.memory.out - p.written) (drop p.written p.memory.out) ≡ left.out =
           ap (λ (w : List ℕ). left.out ++ w)
           (drop_of_length-le (drop p.written p.memory.out) {i = length p.memory.out - p.written} (omega (arith, length-drop p.written p.memory.out)))
@@ -252,114 +252,114 @@ module _ (block : List ℕ) where
           subst
           (λ (w : List ℕ). Upto block start (point front' 0 at' (p.written + n) (memory left.counts left.words left.session left.room (take p.written p.memory.out ++ w))))
           (sym none)
-          (pass-answers n left a' same' (subst (λ (b : Bool). Gathers p.front p.begun block p.at front' begun' at' b) z g))
+          (pass_answers n left a' same' (subst (λ (b : Bool). Gathers p.front p.begun block p.at front' begun' at' b) z g))
 
-  pub pass-stops : (start p : Point) → Upto block start p → (length block ≤ p.at) ⊎ (length p.memory.out < p.written + outputSize)
+  pub pass_stops : (start p : Point) → Upto block start p → (length block ≤ p.at) ⊎ (length p.memory.out < p.written + output_size)
       → Passes block start p
-  pass-stops start p s h = s.goes p (stops h)
+  pass_stops start p s h = s.goes p (stops h)
 
 -- ---- where the walk comes to
 
-line-shorter : (bytes : List ℕ) → lineEnds bytes ≡ true → length (lineIn bytes) < length bytes
-unfolding lineEnds lineIn
-line-shorter [] h = clash h refl
-line-shorter (c ∷ cs) h = by (eqb c 10) h (line-shorter cs)
+line_shorter : (bytes : List ℕ) → line_ends bytes ≡ true → length (line_in bytes) < length bytes
+unfolding line_ends line_in
+line_shorter [] h = clash h refl
+line_shorter (c ∷ cs) h = by (eqb c 10) h (line_shorter cs)
   where
-    by : (b : Bool) → (b || lineEnds cs) ≡ true → (lineEnds cs ≡ true → length (lineIn cs) < length cs) → length (cond b [] (c ∷ lineIn cs)) < suc (length cs)
+    by : (b : Bool) → (b || line_ends cs) ≡ true → (line_ends cs ≡ true → length (line_in cs) < length cs) → length (cond b [] (c ∷ line_in cs)) < suc (length cs)
     by true f more = omega arith
     by false f more = omega (arith, more f)
 
 module _ (block : List ℕ) where
   -- the place after a line is past its first byte, and in the block
-  pub gathered-at : (front : List ℕ) (begun at : ℕ) (front' : List ℕ) (begun' at' : ℕ) (e : Bool) → at < length block
+  pub gathered_at : (front : List ℕ) (begun at : ℕ) (front' : List ℕ) (begun' at' : ℕ) (e : Bool) → at < length block
       → Gathers front begun block at front' begun' at' e → (at < at') × (at' ≤ length block)
-  gathered-at front begun at front' begun' at' true l g =
-      let short = line-shorter (drop at block) (sym g.told) in
+  gathered_at front begun at front' begun' at' true l g =
+      let short = line_shorter (drop at block) (sym g.told) in
       (omega (arith, g.place), omega (arith, g.place, short, length-drop at block))
-  gathered-at front begun at front' begun' at' false l g = (omega (arith, g.place), omega (arith, g.place))
+  gathered_at front begun at front' begun' at' false l g = (omega (arith, g.place), omega (arith, g.place))
 
-  pub pass-at : {p q : Point} → Passes block p q → p.at ≤ length block → (p.at ≤ q.at) × (q.at ≤ length block)
-  pass-at (stops h) l = (omega arith, l)
-  pass-at {p} (begins front' begun' at' on g w) l =
-      let here = gathered-at p.front p.begun p.at front' begun' at' false on.0 g in
-      let rest = pass-at w here.1 in
+  pub pass_at : {p q : Point} → Passes block p q → p.at ≤ length block → (p.at ≤ q.at) × (q.at ≤ length block)
+  pass_at (stops h) l = (omega arith, l)
+  pass_at {p} (begins front' begun' at' on g w) l =
+      let here = gathered_at p.front p.begun p.at front' begun' at' false on.0 g in
+      let rest = pass_at w here.1 in
       (omega (arith, here.0, rest.0), rest.1)
-  pass-at {p} (answers front' begun' at' n left on g s w) l =
-      let here = gathered-at p.front p.begun p.at front' begun' at' true on.0 g in
-      let rest = pass-at w here.1 in
+  pass_at {p} (answers front' begun' at' n left on g s w) l =
+      let here = gathered_at p.front p.begun p.at front' begun' at' true on.0 g in
+      let rest = pass_at w here.1 in
       (omega (arith, here.0, rest.0), rest.1)
 
   -- a walk that goes on takes a byte at least
-  pass-goes : {p q : Point} → Passes block p q → GoesOn block p → p.at < q.at
-  pass-goes (stops h) on = ⊎_elim (λ l. omega (arith, l, on.0)) (λ l. absurd (omega (arith, l, on.1))) h
-  pass-goes {p} (begins front' begun' at' on g w) h =
-      let here = gathered-at p.front p.begun p.at front' begun' at' false on.0 g in
-      omega (arith, here.0, (pass-at w here.1).0)
-  pass-goes {p} (answers front' begun' at' n left on g s w) h =
-      let here = gathered-at p.front p.begun p.at front' begun' at' true on.0 g in
-      omega (arith, here.0, (pass-at w here.1).0)
+  pass_goes : {p q : Point} → Passes block p q → GoesOn block p → p.at < q.at
+  pass_goes (stops h) on = ⊎_elim (λ l. omega (arith, l, on.0)) (λ l. absurd (omega (arith, l, on.1))) h
+  pass_goes {p} (begins front' begun' at' on g w) h =
+      let here = gathered_at p.front p.begun p.at front' begun' at' false on.0 g in
+      omega (arith, here.0, (pass_at w here.1).0)
+  pass_goes {p} (answers front' begun' at' n left on g s w) h =
+      let here = gathered_at p.front p.begun p.at front' begun' at' true on.0 g in
+      omega (arith, here.0, (pass_at w here.1).0)
 
   -- the bytes given are in the output
-  pass-written : {p q : Point} → Passes block p q → p.written ≤ length p.memory.out → q.written ≤ length q.memory.out
-  pass-written (stops h) l = l
-  pass-written (begins front' begun' at' on g w) l = pass-written w l
-  pass-written {p} (answers front' begun' at' n left on g s w) l =
-      let mine = outputAfter p.written p.memory in
+  pass_written : {p q : Point} → Passes block p q → p.written ≤ length p.memory.out → q.written ≤ length q.memory.out
+  pass_written (stops h) l = l
+  pass_written (begins front' begun' at' on g w) l = pass_written w l
+  pass_written {p} (answers front' begun' at' n left on g s w) l =
+      let mine = output_after p.written p.memory in
       let fit = answers-fit mine (take begun' front') n left (rules-passed mine (unrefused mine (take begun' front') n left s)).counted
-      (stepped-answers mine (take begun' front') n left s) in
-      pass-written w (omega (arith, fit, l, length-append (take p.written p.memory.out) left.out, length-take p.written p.memory.out))
+      (stepped_answers mine (take begun' front') n left s) in
+      pass_written w (omega (arith, fit, l, length-append (take p.written p.memory.out) left.out, length-take p.written p.memory.out))
 
-  pass-counted : {p q : Point} → Passes block p q → Counted p.memory.counts → Counted q.memory.counts
-  pass-counted (stops h) c = c
-  pass-counted (begins front' begun' at' on g w) c = pass-counted w c
-  pass-counted {p} (answers front' begun' at' n left on g s w) c =
-      let mine = outputAfter p.written p.memory in
+  pass_counted : {p q : Point} → Passes block p q → Counted p.memory.counts → Counted q.memory.counts
+  pass_counted (stops h) c = c
+  pass_counted (begins front' begun' at' on g w) c = pass_counted w c
+  pass_counted {p} (answers front' begun' at' n left on g s w) c =
+      let mine = output_after p.written p.memory in
       let h = rules-passed mine (unrefused mine (take begun' front') n left s) in
-      pass-counted w (answers-counted mine left n h.ready h.counted (take begun' front') (stepped-answers mine (take begun' front') n left s))
+      pass_counted w (answers-counted mine left n h.ready h.counted (take begun' front') (stepped_answers mine (take begun' front') n left s))
 
 -- what the caller of a block learns where the memory breaks no rule
 module _ (m : Memory) (front : List ℕ) (begun : ℕ) (block : List ℕ) (r : Progress) (m' : Memory) (front' : List ℕ)
-    (t : BlockTaken m front begun block r m' front') (ok : verdict (inputRules m front) ≡ 0) where
+    (t : BlockTaken m front begun block r m' front') (ok : verdict (input_rules m front) ≡ 0) where
   pub block_at : r.at ≤ length block
-  block_at = (pass-at block (t.passes ok).1 (omega arith)).1
+  block_at = (pass_at block (t.passes ok).1 (omega arith)).1
 
   pub block_goes : 0 < length block → 0 < r.at
-  block_goes l = pass-goes block (t.passes ok).1 (l, (input-passed m front ok).0.out)
+  block_goes l = pass_goes block (t.passes ok).1 (l, (input_passed m front ok).0.out)
 
   pub block_written : r.written ≤ length m'.out
-  block_written = pass-written block (t.passes ok).1 (omega arith)
+  block_written = pass_written block (t.passes ok).1 (omega arith)
 
   -- and it breaks none after the call
-  pub block-passed : SameLengths m m' → length front' ≡ length front → verdict (inputRules m' front') ≡ 0
+  pub block-passed : SameLengths m m' → length front' ≡ length front → verdict (input_rules m' front') ≡ 0
   block-passed same long =
-      let i = input-passed m front ok in
-      passed-input m' front' (still-passed m m' i.0 same (pass-counted block (t.passes ok).1 i.0.counted)) (omega (arith, long, i.1))
+      let i = input_passed m front ok in
+      passed_input m' front' (still_passed m m' i.0 same (pass_counted block (t.passes ok).1 i.0.counted)) (omega (arith, long, i.1))
 
 -- and of the end
 pub end-written : (m : Memory) (front : List ℕ) (begun : ℕ) (r : Progress) (m' : Memory) → InputEnded m front begun r m'
-    → verdict (inputRules m front) ≡ 0 → r.written ≤ length m'.out
+    → verdict (input_rules m front) ≡ 0 → r.written ≤ length m'.out
 end-written m front begun r m' t ok =
     ⊎_elim
     (λ z. omega (arith, (t.none ok z).0))
     (λ some.
-    answers-fit m (take begun front) r.written m' (input-passed m front ok).0.counted (t.line ok (omega (arith, some))))
+    answers-fit m (take begun front) r.written m' (input_passed m front ok).0.counted (t.line ok (omega (arith, some))))
     (accepts-or begun)
 
 -- ---- the promises, return by return
 
 module _ (m : Memory) (front : List ℕ) where
-  pub rule-front : length front < frontSize → 3 ≡ verdict (inputRules m front)
-  rule-front l = row-broken 3 (ltb (length front) frontSize) true (memoryRules m) (sym (lt-ltb (length front) frontSize l)) refl
+  pub rule-front : length front < front_size → 3 ≡ verdict (input_rules m front)
+  rule-front l = row-broken 3 (ltb (length front) front_size) true (memory_rules m) (sym (lt-ltb (length front) front_size l)) refl
 
-  pub rule-others : (k : ℕ) → frontSize ≤ length front → k ≡ verdict (memoryRules m) → k ≡ verdict (inputRules m front)
-  rule-others k l e = row-passed 3 (ltb (length front) frontSize) false (memoryRules m) (sym (le-ltb (length front) frontSize l)) k refl e
+  pub rule-others : (k : ℕ) → front_size ≤ length front → k ≡ verdict (memory_rules m) → k ≡ verdict (input_rules m front)
+  rule-others k l e = row-passed 3 (ltb (length front) front_size) false (memory_rules m) (sym (le-ltb (length front) front_size l)) k refl e
 
-  pub unbroken-input : (k : ℕ) → k ≡ verdict (inputRules m front) → k ≡ 0 → verdict (inputRules m front) ≡ 0
-  unbroken-input k k-is fine = sym k-is ∙ fine
+  pub unbroken_input : (k : ℕ) → k ≡ verdict (input_rules m front) → k ≡ 0 → verdict (input_rules m front) ≡ 0
+  unbroken_input k k-is fine = sym k-is ∙ fine
 
-  module _ (begun k : ℕ) (r : Progress) (k-is : k ≡ verdict (inputRules m front)) where
+  module _ (begun k : ℕ) (r : Progress) (k-is : k ≡ verdict (input_rules m front)) where
     module _ (some : k ≡ 0 → ⊥) (told : Refuses k begun r) where
-      told-verdict : Refuses (verdict (inputRules m front)) begun r
+      told-verdict : Refuses (verdict (input_rules m front)) begun r
       told-verdict = (told.0 ∙ k-is, told.1, told.2, told.3)
 
       pub block_refused : (block : List ℕ) → BlockTaken m front begun block r m front
@@ -377,11 +377,11 @@ module _ (m : Memory) (front : List ℕ) where
       pub block-passed-over : (block : List ℕ) (m' : Memory) (front' : List ℕ)
           → (r.rule ≡ 0) × Passes block (point front begun 0 0 m) (point front' r.begun r.at r.written m')
           → BlockTaken m front begun block r m' front'
-      block-passed-over block m' front' w = record { refuses = λ bad. absurd (bad (unbroken-input k k-is fine)); passes = λ ok. w }
+      block-passed-over block m' front' w = record { refuses = λ bad. absurd (bad (unbroken_input k k-is fine)); passes = λ ok. w }
 
       pub end_none : begun ≡ 0 → Refuses 0 0 r → InputEnded m front begun r m
       end_none z told = record {
-        refuses = λ bad. absurd (bad (unbroken-input k k-is fine));
+        refuses = λ bad. absurd (bad (unbroken_input k k-is fine));
         told = λ ok. (told.0, told.2, told.3);
         none = λ ok e. (told.1, refl);
         line = λ ok l. absurd (omega (arith, l, z));
@@ -390,7 +390,7 @@ module _ (m : Memory) (front : List ℕ) where
       pub end_line : (used : ℕ) (m' : Memory) → (begun ≡ 0 → ⊥) → Keeps front begun [] front used → (r.rule ≡ 0) × (r.at ≡ 0) × (r.begun ≡ 0)
           → Answers m (take used front) r.written m' → InputEnded m front begun r m'
       end_line used m' some keeps told a = record {
-        refuses = λ bad. absurd (bad (unbroken-input k k-is fine));
+        refuses = λ bad. absurd (bad (unbroken_input k k-is fine));
         told = λ ok. told;
         none = λ ok z. absurd (some z);
         line = λ ok l. subst (λ (w : List ℕ). Answers m w r.written m') (keeps_same front begun used keeps) a;

@@ -8,18 +8,18 @@ use mathlib.Core.Bool.{false}
 use mathlib.Core.List.{List, [], ◌∷◌, ◌++◌}
 use lib.ListN.{length, get_or, take, drop}
 use lib.Seq.{take-append_seam}
-use Rattle.session.specs.Limits.{maxChanges}
+use Rattle.session.specs.Limits.{max_changes}
 use Rattle.promises.specs.Answers.{Outcome, accepted, outcome}
 use Rattle.promises.specs.Rules.{insertion, deletion, Given, Rule, rule, verdict}
-use Rattle.promises.specs.Model.{Model, loadSummary}
+use Rattle.promises.specs.Model.{Model, load_summary}
 use Rattle.promises.specs.Demands.{Faithful}
 use Rattle.promises.specs.Demands as demands
-use Rattle.promises.proofs.Verdicts.{Lacks, verdict-skip, verdict-lacks}
+use Rattle.promises.proofs.Verdicts.{Lacks, verdict_skip, verdict_lacks}
 use Rattle.promises.proofs.Demands.{demand2, demand3, kept}
 use Rattle.promises.proofs.Told.{same_load, load_told, load-list, edit-told, same_step}
 use Rattle.frames.specs.Frames.{Frame, state, node, run, edit, walk, nothing, frame_of}
 use Rattle.frames.specs.Outputs.{each}
-use Rattle.frames.specs.Machine.{Memory, outputSize, Ready, readSoFar, memoryRules, toldTaken, Prints, Before, After, Stepped}
+use Rattle.frames.specs.Machine.{Memory, output_size, Ready, read_so_far, memory_rules, told_taken, Prints, Before, After, Stepped}
 use Rattle.frames.specs.Moments.{Moment, reading, running, start, broken, printed, next, output}
 use Rattle.frames.specs.Program.{
   Line,
@@ -28,7 +28,7 @@ use Rattle.frames.specs.Program.{
   ended,
   taken,
   filled,
-  printedBy,
+  printed_by,
   Fresh,
   AtMoment,
   LineDemand1,
@@ -42,34 +42,34 @@ use Rattle.frames.proofs.Played.{printed-refused, printed-lines, holds_same, Tol
 -- ---- a line: its bytes, and the demands
 
 -- a memory that holds a moment breaks no rule of its own, in a room and an output that are long enough
-fits : (m : Memory) → Ready m → get_or m.counts 0 0 ≤ 1 → maxChanges ≤ length m.room → outputSize ≤ length m.out
-    → verdict (memoryRules m) ≡ 0
+fits : (m : Memory) → Ready m → get_or m.counts 0 0 ≤ 1 → max_changes ≤ length m.room → output_size ≤ length m.out
+    → verdict (memory_rules m) ≡ 0
 fits m r moment wide long =
-    passed-rules m record { ready = r; counted = (moment, r.few-states, r.few-nodes); room = wide; out = long }
+    passed-rules m record { ready = r; counted = (moment, r.few_states, r.few_nodes); room = wide; out = long }
 
 -- the bytes printed are the front of the output
-filled-front : (l : Line) (n : ℕ) (bytes rest : List ℕ) → toldTaken l.answer ≡ accepted n → n ≡ length bytes → l.left.out ≡ bytes ++ rest
-    → printedBy l ≡ bytes
+filled-front : (l : Line) (n : ℕ) (bytes rest : List ℕ) → told_taken l.answer ≡ accepted n → n ≡ length bytes → l.left.out ≡ bytes ++ rest
+    → printed_by l ≡ bytes
 filled-front l n bytes rest says many out =
     ap (λ (o : Outcome ℕ). filled o l.left.out) says ∙ ap₂ take many out ∙ take-append_seam bytes rest
 
-printed-bytes : (l : Line) (n : ℕ) (bytes : List ℕ) (m : Memory) → toldTaken l.answer ≡ accepted n → Prints bytes m n l.left → printedBy l ≡ bytes
+printed-bytes : (l : Line) (n : ℕ) (bytes : List ℕ) (m : Memory) → told_taken l.answer ≡ accepted n → Prints bytes m n l.left → printed_by l ≡ bytes
 printed-bytes l n bytes m says p = filled-front l n bytes (drop (length bytes) m.out) says p.many (ap (λ (x : Memory). x.out) p.left)
 
 -- the line l, taken in the memory m
-module _ (m : Memory) (l : Line) (wide : maxChanges ≤ length l.room) (n : ℕ) (says : toldTaken l.answer ≡ accepted n) where
+module _ (m : Memory) (l : Line) (wide : max_changes ≤ length l.room) (n : ℕ) (says : told_taken l.answer ≡ accepted n) where
   abbrev mine : Memory
   mine = lent m l.room l.out
 
-  before-demanded : Ready m → (f : Frame) → Before f (lent m l.room l.out) n l.left → Demanded (reading (readSoFar (lent m l.room l.out))) f l
+  before-demanded : Ready m → (f : Frame) → Before f (lent m l.room l.out) n l.left → Demanded (reading (read_so_far (lent m l.room l.out))) f l
   unfolding broken
   before-demanded r run w = λ ok.
-      let x = readSoFar mine in
+      let x = read_so_far mine in
       let fine = same_load x m.session l.room r.session wide ∙ ok in
       record {
         answer = w.answer;
         tells = load_told x m.session l.room r.session wide w.answer l.left.session l.left.room w.loads
-            ∙ ap (λ (v : ℕ). outcome v (loadSummary x)) ok;
+            ∙ ap (λ (v : ℕ). outcome v (load_summary x)) ok;
         list = load-list x m.session l.room r.session wide w.answer l.left.session l.left.room w.loads ok;
         prints = printed-bytes l n _ _ says w.prints;
         demand2 = demand2 x m.session l.room w.answer l.left.session l.left.room w.loads fine;
@@ -102,11 +102,11 @@ module _ (m : Memory) (l : Line) (wide : maxChanges ≤ length l.room) (n : ℕ)
 -- what a line comes to at its moment
 record Comes (p : Moment) (m : Memory) (l : Line) : Type 1 where
   pub count : ℕ
-  pub says : toldTaken l.answer ≡ accepted count
+  pub says : told_taken l.answer ≡ accepted count
   pub told : Told p (frame_of l.bytes) (lent m l.room l.out) count l.left
   pub demanded : Demanded p (frame_of l.bytes) l
 
-comes : (p : Moment) (m : Memory) (l : Line) → AtMoment p m → maxChanges ≤ length l.room → outputSize ≤ length l.out
+comes : (p : Moment) (m : Memory) (l : Line) → AtMoment p m → max_changes ≤ length l.room → output_size ≤ length l.out
     → Stepped (lent m l.room l.out) l.bytes l.answer l.left → Comes p m l
 comes (reading x) m l h wide long s =
     let mine = lent m l.room l.out in
@@ -132,13 +132,13 @@ comes (running b) m l h wide long s =
     }
 
 module _ (p : Moment) (m : Memory) (l : Line) (c : Comes p m l) where
-  line-prints : printedBy l ≡ printed p (frame_of l.bytes)
+  line-prints : printed_by l ≡ printed p (frame_of l.bytes)
   line-prints =
       let bytes = printed p (frame_of l.bytes) in
       filled-front l c.count bytes (drop (length bytes) l.out) c.says c.told.many c.told.out
 
-  line-demand1 : LineDemand1 p m l
-  line-demand1 =
+  line_demand1 : LineDemand1 p m l
+  line_demand1 =
       let f = frame_of l.bytes in
       record {
         taken = c.says ∙ ap accepted c.told.many;
@@ -159,18 +159,18 @@ whole_from p m (l ∷ ls) h (taken wide long s more) =
     let rest = whole_from (next p (frame_of l.bytes)) l.left ls c.told.holds more in
     record {
       prints = ap₂ ◌++◌ (line-prints p m l c) rest.prints;
-      demands = (line-demand1 p m l c, c.demanded, rest.demands);
+      demands = (line_demand1 p m l c, c.demanded, rest.demands);
     }
 
 fresh_holds : (m : Memory) → Fresh m → AtMoment start m
-unfolding readSoFar
+unfolding read_so_far
 fresh_holds m f = (
   record {
     counts = f.counts;
     words = f.words;
     session = f.session;
-    few-states = omega (arith, f.states);
-    few-nodes = omega (arith, f.nodes);
+    few_states = omega (arith, f.states);
+    few_nodes = omega (arith, f.nodes);
   },
   f.moment,
   rw (f.states, f.nodes, mod-one),
@@ -186,24 +186,24 @@ module _ (k : ℕ) (h : (k ≡ 3) ⊎ (k ≡ 10)) where
   lacking : (rs : List Rule) → Lacks 3 rs → Lacks 10 rs → verdict rs ≡ k → ⊥
   lacking rs a b =
       ⊎_elim
-      (λ e. subst (λ (j : ℕ). verdict rs ≡ j → ⊥) (sym e) (verdict-lacks 3 rs (λ z. absurd (omega (arith, z))) a))
-      (λ e. subst (λ (j : ℕ). verdict rs ≡ j → ⊥) (sym e) (verdict-lacks 10 rs (λ z. absurd (omega (arith, z))) b))
+      (λ e. subst (λ (j : ℕ). verdict rs ≡ j → ⊥) (sym e) (verdict_lacks 3 rs (λ z. absurd (omega (arith, z))) a))
+      (λ e. subst (λ (j : ℕ). verdict rs ≡ j → ⊥) (sym e) (verdict_lacks 10 rs (λ z. absurd (omega (arith, z))) b))
       h
 
   -- the program's memory and room are long enough for a load and an edit
-  lacking-long : (rs : List Rule) → Lacks 3 rs → Lacks 10 rs → verdict (rule 3 false ∷ rs) ≡ k → ⊥
-  lacking-long rs a b e = lacking rs a b (sym (verdict-skip 3 false rs refl) ∙ e)
+  lacking_long : (rs : List Rule) → Lacks 3 rs → Lacks 10 rs → verdict (rule 3 false ∷ rs) ≡ k → ⊥
+  lacking_long rs a b e = lacking rs a b (sym (verdict_skip 3 false rs refl) ∙ e)
 
   pub never : (p : Moment) (f : Frame) → broken p f ≡ k → ⊥
   unfolding broken
   never (reading x) (state inverted mask value links) = lacking _ (omega arith) (omega arith)
   never (reading x) (node sample) = lacking _ (omega arith) (omega arith)
-  never (reading x) run = lacking-long _ (omega arith) (omega arith)
+  never (reading x) run = lacking_long _ (omega arith) (omega arith)
   never (reading x) (edit kind u v) = lacking _ (omega arith) (omega arith)
   never (reading x) walk = lacking _ (omega arith) (omega arith)
   never (reading x) nothing = lacking _ (omega arith) (omega arith)
-  never (running b) (edit insertion u v) = lacking-long _ (omega arith) (omega arith)
-  never (running b) (edit deletion u v) = lacking-long _ (omega arith) (omega arith)
+  never (running b) (edit insertion u v) = lacking_long _ (omega arith) (omega arith)
+  never (running b) (edit deletion u v) = lacking_long _ (omega arith) (omega arith)
   never (running b) walk = lacking [] (omega arith) (omega arith)
   never (running b) (state inverted mask value links) = lacking _ (omega arith) (omega arith)
   never (running b) (node sample) = lacking _ (omega arith) (omega arith)

@@ -9,56 +9,56 @@ use lib.Dec.{leb}
 use lib.ListN.{length, get_or}
 use borrow.Author.Tests.{leb-false}
 use Rattle.simulation.proofs.Search.{lt-or-le}
-use Rattle.session.specs.Limits.{maxStates, maxNodes}
+use Rattle.session.specs.Limits.{max_states, max_nodes}
 use Rattle.promises.specs.Answers.{Outcome, Summary, told}
-use Rattle.promises.specs.Rules.{verdict, loadRules}
+use Rattle.promises.specs.Rules.{verdict, load_rules}
 use Rattle.promises.specs.OneMemory as reached
 use Rattle.promises.specs.OneMemory.{ByCalls, load, call}
 use Rattle.promises.proofs.Verdicts.{accepts-or}
 use Rattle.frames.specs.declared.Taken.{Taken}
 use Rattle.frames.specs.Frames.{Frame, state, node, run, edit, walk, nothing, frame_of}
-use Rattle.frames.specs.Machine.{Memory, statesRead, nodesRead, Ready, readSoFar, moved, memoryRules, stateKept, nodeKept, Prints, Ran, Before, After, Stepped}
+use Rattle.frames.specs.Machine.{Memory, states_read, nodes_read, Ready, read_so_far, moved, memory_rules, state_kept, node_kept, Prints, Ran, Before, After, Stepped}
 use Rattle.frames.specs.Program.{Line, LineByLine, ended, taken, Fresh, Reaching, AllReaching}
 use Rattle.frames.proofs.Kept.{state-moment, node-moment}
 use Rattle.frames.proofs.Takes.{rules-passed}
 
 -- a memory before an accepted run says nothing of its session
-still-reading : (m : Memory) → get_or m.counts 0 0 ≡ 0 → Reaching m
-still-reading m none = λ one. absurd (omega (arith, none, one))
+still_reading : (m : Memory) → get_or m.counts 0 0 ≡ 0 → Reaching m
+still_reading m none = λ one. absurd (omega (arith, none, one))
 
 -- bytes printed leave counts and session
 prints-reading : (bytes : List ℕ) (m : Memory) (n : ℕ) (m' : Memory) → get_or m.counts 0 0 ≡ 0 → Prints bytes m n m' → Reaching m'
-prints-reading bytes m n m' none w = still-reading m' (ap (λ (l : Memory). get_or l.counts 0 0) w.left ∙ none)
+prints-reading bytes m n m' none w = still_reading m' (ap (λ (l : Memory). get_or l.counts 0 0) w.left ∙ none)
 
 prints-reached : (bytes : List ℕ) (m : Memory) (n : ℕ) (m' : Memory) → ByCalls m.session → Prints bytes m n m' → Reaching m'
 prints-reached bytes m n m' h w = λ one. subst ByCalls (sym (ap (λ (l : Memory). l.session) w.left)) h
 
 module _ (m : Memory) (r : Ready m) (none : get_or m.counts 0 0 ≡ 0) (n : ℕ) (m' : Memory) where
   -- the run: its load, where that is accepted
-  ran-reaches : Ran m n m' → Reaching m'
-  ran-reaches w =
-      let x = readSoFar m in
+  ran_reaches : Ran m n m' → Reaching m'
+  ran_reaches w =
+      let x = read_so_far m in
       let left : get_or m'.counts 0 0 ≡ get_or (moved (told w.answer) m.counts) 0 0 = ap (λ (l : Memory). get_or l.counts 0 0) w.prints.left in
       ⊎_elim
       (λ ok one. load ok w.loads)
-      (λ bad. still-reading m' (left ∙ ap (λ (o : Outcome Summary). get_or (moved o m.counts) 0 0) (w.loads.refuses bad).answer ∙ none))
-      (accepts-or (verdict (loadRules (length m.session) (length m.room) x)))
+      (λ bad. still_reading m' (left ∙ ap (λ (o : Outcome Summary). get_or (moved o m.counts) 0 0) (w.loads.refuses bad).answer ∙ none))
+      (accepts-or (verdict (load_rules (length m.session) (length m.room) x)))
 
   before-reaches : (f : Frame) → Before f m n m' → Reaching m'
-  before-reaches (state inverted mask value links) w = by (leb maxStates (statesRead m)) refl
+  before-reaches (state inverted mask value links) w = by (leb max_states (states_read m)) refl
     where
-      by : (full : Bool) → leb maxStates (statesRead m) ≡ full → Reaching m'
+      by : (full : Bool) → leb max_states (states_read m) ≡ full → Reaching m'
       by true e = prints-reading _ m n m' none (rw e at w)
       by false e =
-          prints-reading _ (stateKept m inverted mask value links) n m'
-          (state-moment m r inverted mask value links (leb-false maxStates (statesRead m) e) ∙ none) (rw e at w)
-  before-reaches (node sample) w = by (leb maxNodes (nodesRead m)) refl
+          prints-reading _ (state_kept m inverted mask value links) n m'
+          (state-moment m r inverted mask value links (leb-false max_states (states_read m) e) ∙ none) (rw e at w)
+  before-reaches (node sample) w = by (leb max_nodes (nodes_read m)) refl
     where
-      by : (full : Bool) → leb maxNodes (nodesRead m) ≡ full → Reaching m'
+      by : (full : Bool) → leb max_nodes (nodes_read m) ≡ full → Reaching m'
       by true e = prints-reading _ m n m' none (rw e at w)
       by false e =
-          prints-reading _ (nodeKept m sample) n m' (node-moment m r sample (leb-false maxNodes (nodesRead m) e) ∙ none) (rw e at w)
-  before-reaches run w = ran-reaches w
+          prints-reading _ (node_kept m sample) n m' (node-moment m r sample (leb-false max_nodes (nodes_read m) e) ∙ none) (rw e at w)
+  before-reaches run w = ran_reaches w
   before-reaches (edit k a b) w = prints-reading _ m n m' none w
   before-reaches walk w = prints-reading _ m n m' none w
   before-reaches nothing w = prints-reading _ m n m' none w
@@ -86,11 +86,11 @@ line-reaches m line r m' s h =
     after-reaches m (h one) w.0 m' (frame_of line) (w.2.after one))
     (lt-or-le (get_or m.counts 0 0) 1))
     (λ bad. subst Reaching (sym (s.refuses bad).1) h)
-    (accepts-or (verdict (memoryRules m)))
+    (accepts-or (verdict (memory_rules m)))
 
 -- all lines from the start on
 pub lines-reach : (m : Memory) (ls : List Line) → Fresh m → LineByLine m ls → AllReaching ls
-lines-reach m ls f played = from m ls (still-reading m f.moment) played
+lines-reach m ls f played = from m ls (still_reading m f.moment) played
   where
     from : (m : Memory) (ls : List Line) → Reaching m → LineByLine m ls → AllReaching ls
     from m [] h ended = tt

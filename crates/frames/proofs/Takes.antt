@@ -13,12 +13,12 @@ use lib.ListN.{length, get_or, set, take, drop}
 use lib.Seq.{get_or-set_same, get_or-set_other}
 use borrow.Author.Tests.{le-ltb, ltb-false, leb-false}
 use denote.Enum.Declared
-use Rattle.simulation.proofs.Sets.{or-false-l, or-false-r}
-use Rattle.session.specs.Limits.{fixedSize, maxStates, maxNodes, maxChanges}
+use Rattle.simulation.proofs.Sets.{or_false_l, or_false_r}
+use Rattle.session.specs.Limits.{fixed_size, max_states, max_nodes, max_changes}
 use Rattle.listing.specs.Placed.{Placed}
 use Rattle.promises.specs.Answers.{Outcome, Summary, accepted, refused, told}
 use Rattle.promises.specs.Rules.{rule, verdict, given}
-use Rattle.promises.proofs.Verdicts.{accepts-or, verdict-pass, row-passed, row-broken, rows_end}
+use Rattle.promises.proofs.Verdicts.{accepts-or, verdict_pass, row-passed, row-broken, rows_end}
 use Rattle.frames.specs.declared.Frame as declared
 use Rattle.frames.specs.declared.Frame.TheVariants as F
 use Rattle.frames.specs.declared.Taken.TheVariants as T
@@ -27,21 +27,21 @@ use Rattle.frames.specs.Outputs.{refusal}
 use Rattle.frames.specs.Machine.{
   Memory,
   memory,
-  linksIn,
-  countsSize,
-  valuesIn,
-  samplesIn,
-  wordsSize,
-  outputSize,
-  statesRead,
-  nodesRead,
+  links_in,
+  counts_size,
+  values_in,
+  samples_in,
+  words_size,
+  output_size,
+  states_read,
+  nodes_read,
   Ready,
-  invertedRead,
-  readSoFar,
+  inverted_read,
+  read_so_far,
   moved,
-  tooSmall,
+  too_small,
   miscounted,
-  memoryRules,
+  memory_rules,
   Prints,
   Before,
   After,
@@ -60,18 +60,18 @@ printed-front counts words s c {out} {bytes} {out'} {n} p = record {
 }
 
 -- what the run loads is what was read so far
-pub read-parts : (m : Memory) (inverted : ℕ) → inverted ≡ invertedRead m → let n = statesRead m in
-    given (take (n - 0) m.words) (take (valuesIn + n - valuesIn) (drop valuesIn m.words)) (take (linksIn + n - linksIn) (drop linksIn m.counts))
-    inverted (take (samplesIn + nodesRead m - samplesIn) (drop samplesIn m.words)) [] []
-    ≡ readSoFar m
-unfolding readSoFar
-read-parts m inverted e =
+pub read_parts : (m : Memory) (inverted : ℕ) → inverted ≡ inverted_read m → let n = states_read m in
+    given (take (n - 0) m.words) (take (values_in + n - values_in) (drop values_in m.words)) (take (links_in + n - links_in) (drop links_in m.counts))
+    inverted (take (samples_in + nodes_read m - samples_in) (drop samples_in m.words)) [] []
+    ≡ read_so_far m
+unfolding read_so_far
+read_parts m inverted e =
     rw (
       e,
       sub-zero,
-      part-from m.words valuesIn (statesRead m),
-      part-from m.counts linksIn (statesRead m),
-      part-from m.words samplesIn (nodesRead m),
+      part-from m.words values_in (states_read m),
+      part-from m.counts links_in (states_read m),
+      part-from m.words samples_in (nodes_read m),
     )
 
 -- ---- a frame of the other moment: edits and the order are early, states, nodes and the run are late
@@ -114,69 +114,69 @@ module _ (m : Memory) (line : List ℕ) (n : ℕ) (m' : Memory) where
 
 -- the counts are some that lines leave
 abbrev pub Counted : List ℕ → Type 0
-Counted counts = (get_or counts 0 0 ≤ 1) × (get_or counts 1 0 ≤ maxStates) × (get_or counts 2 0 ≤ maxNodes)
+Counted counts = (get_or counts 0 0 ≤ 1) × (get_or counts 1 0 ≤ max_states) × (get_or counts 2 0 ≤ max_nodes)
 
 -- long enough, room and output too
 pub record Passed (m : Memory) : Type 0 where
   pub ready : Ready m
   pub counted : Counted m.counts
-  pub room : maxChanges ≤ length m.room
-  pub out : outputSize ≤ length m.out
+  pub room : max_changes ≤ length m.room
+  pub out : output_size ≤ length m.out
 
-pub long-enough : (m : Memory) → tooSmall m ≡ false
-    → (countsSize ≤ length m.counts) × (wordsSize ≤ length m.words) × (fixedSize ≤ length m.session) × (maxChanges ≤ length m.room)
-    × (outputSize ≤ length m.out)
-long-enough m z =
-    let first = ltb (length m.counts) countsSize in
-    let second = ltb (length m.words) wordsSize in
-    let third = ltb (length m.session) fixedSize in
-    let fourth = ltb (length m.room) maxChanges in
-    let fifth = ltb (length m.out) outputSize in
-    let front = or-false-l (first || second) (third || (fourth || fifth)) z in
-    let back = or-false-r (first || second) (third || (fourth || fifth)) z in
-    let last = or-false-r third (fourth || fifth) back in (
-      ltb-false (length m.counts) countsSize (or-false-l first second front),
-      ltb-false (length m.words) wordsSize (or-false-r first second front),
-      ltb-false (length m.session) fixedSize (or-false-l third (fourth || fifth) back),
-      ltb-false (length m.room) maxChanges (or-false-l fourth fifth last),
-      ltb-false (length m.out) outputSize (or-false-r fourth fifth last),
+pub long_enough : (m : Memory) → too_small m ≡ false
+    → (counts_size ≤ length m.counts) × (words_size ≤ length m.words) × (fixed_size ≤ length m.session) × (max_changes ≤ length m.room)
+    × (output_size ≤ length m.out)
+long_enough m z =
+    let first = ltb (length m.counts) counts_size in
+    let second = ltb (length m.words) words_size in
+    let third = ltb (length m.session) fixed_size in
+    let fourth = ltb (length m.room) max_changes in
+    let fifth = ltb (length m.out) output_size in
+    let front = or_false_l (first || second) (third || (fourth || fifth)) z in
+    let back = or_false_r (first || second) (third || (fourth || fifth)) z in
+    let last = or_false_r third (fourth || fifth) back in (
+      ltb-false (length m.counts) counts_size (or_false_l first second front),
+      ltb-false (length m.words) words_size (or_false_r first second front),
+      ltb-false (length m.session) fixed_size (or_false_l third (fourth || fifth) back),
+      ltb-false (length m.room) max_changes (or_false_l fourth fifth last),
+      ltb-false (length m.out) output_size (or_false_r fourth fifth last),
     )
 
 counts-right : (m : Memory) → miscounted m ≡ false → Counted m.counts
 counts-right m z =
     let first = ltb 1 (get_or m.counts 0 0) in
-    let second = ltb maxStates (statesRead m) in
-    let third = ltb maxNodes (nodesRead m) in
-    let back = or-false-r first (second || third) z in (
-      ltb-false 1 (get_or m.counts 0 0) (or-false-l first (second || third) z),
-      ltb-false maxStates (statesRead m) (or-false-l second third back),
-      ltb-false maxNodes (nodesRead m) (or-false-r second third back),
+    let second = ltb max_states (states_read m) in
+    let third = ltb max_nodes (nodes_read m) in
+    let back = or_false_r first (second || third) z in (
+      ltb-false 1 (get_or m.counts 0 0) (or_false_l first (second || third) z),
+      ltb-false max_states (states_read m) (or_false_l second third back),
+      ltb-false max_nodes (nodes_read m) (or_false_r second third back),
     )
 
-pub rules-passed : (m : Memory) → verdict (memoryRules m) ≡ 0 → Passed m
+pub rules-passed : (m : Memory) → verdict (memory_rules m) ≡ 0 → Passed m
 rules-passed m ok =
-    let first = verdict-pass 3 (tooSmall m) (rule 10 (miscounted m) ∷ []) (omega arith) ok in
-    let long = long-enough m first.0 in
-    let right = counts-right m (verdict-pass 10 (miscounted m) [] (omega arith) first.1).0 in
+    let first = verdict_pass 3 (too_small m) (rule 10 (miscounted m) ∷ []) (omega arith) ok in
+    let long = long_enough m first.0 in
+    let right = counts-right m (verdict_pass 10 (miscounted m) [] (omega arith) first.1).0 in
     record {
-      ready = record { counts = long.0; words = long.1; session = long.2; few-states = right.1; few-nodes = right.2 };
+      ready = record { counts = long.0; words = long.1; session = long.2; few_states = right.1; few_nodes = right.2 };
       counted = right;
       room = long.3;
       out = long.4;
     }
 
-pub passed-rules : (m : Memory) → Passed m → verdict (memoryRules m) ≡ 0
+pub passed-rules : (m : Memory) → Passed m → verdict (memory_rules m) ≡ 0
 unfolding verdict
 passed-rules m p =
     rw (
-      le-ltb (length m.counts) countsSize p.ready.counts,
-      le-ltb (length m.words) wordsSize p.ready.words,
-      le-ltb (length m.session) fixedSize p.ready.session,
-      le-ltb (length m.room) maxChanges p.room,
-      le-ltb (length m.out) outputSize p.out,
+      le-ltb (length m.counts) counts_size p.ready.counts,
+      le-ltb (length m.words) words_size p.ready.words,
+      le-ltb (length m.session) fixed_size p.ready.session,
+      le-ltb (length m.room) max_changes p.room,
+      le-ltb (length m.out) output_size p.out,
       le-ltb 1 (get_or m.counts 0 0) p.counted.0,
-      le-ltb maxStates (get_or m.counts 1 0) p.counted.1,
-      le-ltb maxNodes (get_or m.counts 2 0) p.counted.2,
+      le-ltb max_states (get_or m.counts 1 0) p.counted.1,
+      le-ltb max_nodes (get_or m.counts 2 0) p.counted.2,
     )
 
 -- ---- a line leaves such counts again
@@ -195,26 +195,26 @@ module _ (m m' : Memory) (n : ℕ) (r : Ready m) (c : Counted m.counts) where
   moved-counted (refused k) = c
 
   before-counted : (f : Frame) → Before f m n m' → Counted m'.counts
-  before-counted (state inverted mask value links) w = by (leb maxStates (statesRead m)) refl
+  before-counted (state inverted mask value links) w = by (leb max_states (states_read m)) refl
     where
-      by : (full : Bool) → leb maxStates (statesRead m) ≡ full → Counted m'.counts
+      by : (full : Bool) → leb max_states (states_read m) ≡ full → Counted m'.counts
       by true e = let p = rw e at w in same-counts _ (ap (λ (x : Memory). x.counts) p.left) c
       by false e =
           let p = rw e at w in
-          let room = leb-false maxStates (statesRead m) e in
+          let room = leb-false max_states (states_read m) e in
           let more = state-ready m r inverted mask value links room in
           same-counts _ (ap (λ (x : Memory). x.counts) p.left)
-          (omega (arith, c.0, state-moment m r inverted mask value links room), more.few-states, more.few-nodes)
-  before-counted (node sample) w = by (leb maxNodes (nodesRead m)) refl
+          (omega (arith, c.0, state-moment m r inverted mask value links room), more.few_states, more.few_nodes)
+  before-counted (node sample) w = by (leb max_nodes (nodes_read m)) refl
     where
-      by : (full : Bool) → leb maxNodes (nodesRead m) ≡ full → Counted m'.counts
+      by : (full : Bool) → leb max_nodes (nodes_read m) ≡ full → Counted m'.counts
       by true e = let p = rw e at w in same-counts _ (ap (λ (x : Memory). x.counts) p.left) c
       by false e =
           let p = rw e at w in
-          let room = leb-false maxNodes (nodesRead m) e in
+          let room = leb-false max_nodes (nodes_read m) e in
           let more = node-ready m r sample room in
           same-counts _ (ap (λ (x : Memory). x.counts) p.left)
-          (omega (arith, c.0, node-moment m r sample room), more.few-states, more.few-nodes)
+          (omega (arith, c.0, node-moment m r sample room), more.few_states, more.few_nodes)
   before-counted run w = same-counts _ (ap (λ (x : Memory). x.counts) w.prints.left) (moved-counted (told w.answer))
   before-counted (edit k a b) w = same-counts _ (ap (λ (x : Memory). x.counts) w.left) c
   before-counted walk w = same-counts _ (ap (λ (x : Memory). x.counts) w.left) c
@@ -237,21 +237,21 @@ module _ (m m' : Memory) (n : ℕ) (r : Ready m) (c : Counted m.counts) where
 
 -- ---- the rules of the memory, and then the line
 
-module _ (m : Memory) (a : Bool) (a-is : a ≡ tooSmall m) where
-  pub rule-short : a ≡ true → 3 ≡ verdict (memoryRules m)
-  rule-short h = row-broken 3 (tooSmall m) a (rule 10 (miscounted m) ∷ []) a-is h
+module _ (m : Memory) (a : Bool) (a-is : a ≡ too_small m) where
+  pub rule-short : a ≡ true → 3 ≡ verdict (memory_rules m)
+  rule-short h = row-broken 3 (too_small m) a (rule 10 (miscounted m) ∷ []) a-is h
 
   module _ (long : a ≡ false) (b : Bool) (b-is : b ≡ miscounted m) where
-    pub rule-counts : b ≡ true → 10 ≡ verdict (memoryRules m)
-    rule-counts h = row-passed 3 (tooSmall m) a (rule 10 (miscounted m) ∷ []) a-is 10 long (row-broken 10 (miscounted m) b [] b-is h)
+    pub rule-counts : b ≡ true → 10 ≡ verdict (memory_rules m)
+    rule-counts h = row-passed 3 (too_small m) a (rule 10 (miscounted m) ∷ []) a-is 10 long (row-broken 10 (miscounted m) b [] b-is h)
 
-    pub rule-none : b ≡ false → 0 ≡ verdict (memoryRules m)
+    pub rule-none : b ≡ false → 0 ≡ verdict (memory_rules m)
     rule-none h =
-        row-passed 3 (tooSmall m) a (rule 10 (miscounted m) ∷ []) a-is 0 long (row-passed 10 (miscounted m) b [] b-is 0 h rows_end)
+        row-passed 3 (too_small m) a (rule 10 (miscounted m) ∷ []) a-is 0 long (row-passed 10 (miscounted m) b [] b-is 0 h rows_end)
 
 module _ (m : Memory) (line : List ℕ) where
-  pub taken_refused : (k : ℕ) → k ≡ verdict (memoryRules m) → (k ≡ 0 → ⊥) → Stepped m line (T.Refused k) m
+  pub taken_refused : (k : ℕ) → k ≡ verdict (memory_rules m) → (k ≡ 0 → ⊥) → Stepped m line (T.Refused k) m
   taken_refused k e some = record { refuses = λ bad. (ap refused e, refl); answers = λ z. absurd (some (e ∙ z)) }
 
-  pub taken-line : (n : ℕ) (m' : Memory) → verdict (memoryRules m) ≡ 0 → Answers m line n m' → Stepped m line (T.Written n) m'
+  pub taken-line : (n : ℕ) (m' : Memory) → verdict (memory_rules m) ≡ 0 → Answers m line n m' → Stepped m line (T.Written n) m'
   taken-line n m' ok w = record { refuses = λ bad. absurd (bad ok); answers = λ z. (n, refl, w) }

@@ -7,18 +7,18 @@ use mathlib.Core.List.{List, ◌∷◌, ◌++◌}
 use lib.Dec.{eqb}
 use lib.ListN.{length, take, drop, length-append, length-take}
 use lib.Seq.{take_all, take-append_seam, drop-append_seam, drop-drop}
-use Rattle.bits.specs.Word.{halfBits}
+use Rattle.bits.specs.Word.{half_bits}
 use Rattle.promises.specs.Rules.{verdict}
-use Rattle.frames.specs.Digits.{digit, hexadecimal, numberFrom, number}
+use Rattle.frames.specs.Digits.{digit, hexadecimal, number_from, number}
 use Rattle.frames.specs.Frames.{state, nothing, field, spoken}
 use Rattle.frames.specs.Moments.{Moment, reading, running, broken}
 use Rattle.frames.proofs.Hex.{number_fits}
-use Rattle.frames.proofs.Kinded.{hex-part, state-right, wide-other, wide-right}
+use Rattle.frames.proofs.Kinded.{hex_part, state-right, wide_other, wide-right}
 
 -- "any other inversion byte meets 1", at every moment
-pub third-inversion : (p : Moment) (ds : List ℕ) → length ds ≡ 18 → 1 < field 2 ds 0 → broken p (spoken 10 ds) ≡ 1
+pub third_inversion : (p : Moment) (ds : List ℕ) → length ds ≡ 18 → 1 < field 2 ds 0 → broken p (spoken 10 ds) ≡ 1
 unfolding broken verdict
-third-inversion p ds e l = ap (broken p) (sym (wide-other ds e l)) ∙ by p
+third_inversion p ds e l = ap (broken p) (sym (wide_other ds e l)) ∙ by p
   where
     by : (p : Moment) → broken p nothing ≡ 1
     by (reading x) = refl
@@ -39,13 +39,13 @@ abbrev pub inversion : Bool → List ℕ → List ℕ
 inversion b ds = 48 ∷ cond b 49 48 ∷ ds
 
 padded-number : (ds : List ℕ) → number (padded ds) ≡ number ds
-unfolding numberFrom digit
+unfolding number_from digit
 padded-number ds = refl
 
-inversion-byte : (b : Bool) (ds : List ℕ) → field 2 (inversion b ds) 0 ≡ cond b 1 0
-unfolding numberFrom digit
-inversion-byte true ds = refl
-inversion-byte false ds = refl
+inversion_byte : (b : Bool) (ds : List ℕ) → field 2 (inversion b ds) 0 ≡ cond b 1 0
+unfolding number_from digit
+inversion_byte true ds = refl
+inversion_byte false ds = refl
 
 one_bit : (b : Bool) → eqb (cond b 1 0) 1 ≡ b
 one_bit true = refl
@@ -65,34 +65,34 @@ module _ (mask value : List ℕ) (m : length mask ≡ 4) (v : length value ≡ 4
   after-mask : (rest : List ℕ) → drop 4 (fields mask value rest) ≡ value ++ rest
   after-mask rest = ap (λ (k : ℕ). drop k (fields mask value rest)) (sym m) ∙ drop-append_seam mask (value ++ rest)
 
-  value-is : (rest : List ℕ) → field 4 (fields mask value rest) 4 ≡ number value
-  value-is rest =
+  value_is : (rest : List ℕ) → field 4 (fields mask value rest) 4 ≡ number value
+  value_is rest =
       ap number (ap (take 4) (after-mask rest) ∙ ap (λ (k : ℕ). take k (value ++ rest)) (sym v) ∙ take-append_seam value rest)
 
-  after-value : (rest : List ℕ) → drop 8 (fields mask value rest) ≡ rest
-  after-value rest =
+  after_value : (rest : List ℕ) → drop 8 (fields mask value rest) ≡ rest
+  after_value rest =
       sym (drop-drop 4 4 (fields mask value rest)) ∙ ap (drop 4) (after-mask rest) ∙ ap (λ (k : ℕ). drop k (value ++ rest)) (sym v) ∙ drop-append_seam value rest
 
-  links-are : (n : ℕ) (rest : List ℕ) → length rest ≡ n → field n (fields mask value rest) 8 ≡ number rest
-  links-are n rest e = ap number (ap (take n) (after-value rest) ∙ take_all n rest (omega arith))
+  links_are : (n : ℕ) (rest : List ℕ) → length rest ≡ n → field n (fields mask value rest) 8 ≡ number rest
+  links_are n rest e = ap number (ap (take n) (after_value rest) ∙ take_all n rest (omega arith))
 
   -- "`01` and `07` are still read": they say what `0A` says with their inversion and the upper half of its link digits zero
-  pub older-wide : (b : Bool) (links : List ℕ) → length links ≡ 4 → spoken (cond b 7 1) (fields mask value links) ≡ spoken 10 (inversion b (fields mask value (padded links)))
-  older-wide b links l =
+  pub older_wide : (b : Bool) (links : List ℕ) → length links ≡ 4 → spoken (cond b 7 1) (fields mask value links) ≡ spoken 10 (inversion b (fields mask value (padded links)))
+  older_wide b links l =
       let zeros = padded links in
       let wide = inversion b (fields mask value zeros) in
-      let byte = inversion-byte b (fields mask value zeros) in
+      let byte = inversion_byte b (fields mask value zeros) in
       let same : state b (field 4 (fields mask value links) 0) (field 4 (fields mask value links) 4) (field 4 (fields mask value links) 8)
       ≡ state (eqb (field 2 wide 0) 1) (field 4 wide 2) (field 4 wide 6) (field 8 wide 10) =
       rw (
         mask_is links,
-        value-is links,
-        links-are 4 links l,
+        value_is links,
+        links_are 4 links l,
         byte,
         one_bit b,
         mask_is zeros,
-        value-is zeros,
-        links-are 8 zeros (omega arith),
+        value_is zeros,
+        links_are 8 zeros (omega arith),
         padded-number links,
       ) in
       sym (state-right (fields mask value links) b (omega (arith, fields-long links)))
@@ -100,5 +100,5 @@ module _ (mask value : List ℕ) (m : length mask ≡ 4) (v : length value ≡ 4
       ∙ wide-right wide (omega (arith, fields-long zeros)) (omega (arith, byte, few b))
 
 -- their links are in the lower half
-pub older-links : (ds : List ℕ) → hexadecimal ds ≡ true → length ds ≡ 12 → field 4 ds 8 < 2 ^ halfBits
-older-links ds h e = number_fits (take 4 (drop 8 ds)) 4 (hex-part ds 8 4 h (omega arith)) (omega (arith, length-take 4 (drop 8 ds)))
+pub older_links : (ds : List ℕ) → hexadecimal ds ≡ true → length ds ≡ 12 → field 4 ds 8 < 2 ^ half_bits
+older_links ds h e = number_fits (take 4 (drop 8 ds)) 4 (hex_part ds 8 4 h (omega arith)) (omega (arith, length-take 4 (drop 8 ds)))

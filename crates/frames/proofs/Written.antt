@@ -14,7 +14,7 @@ use borrow.Author.Tests.{lt-ltb, le-ltb}
 use Rattle.simulation.proofs.Sets.{clash}
 use Rattle.simulation.proofs.Search.{lt-or-le}
 use Rattle.bits.specs.Word.{members, word}
-use Rattle.bits.proofs.Bits.{bit-above}
+use Rattle.bits.proofs.Bits.{bit_above}
 use Rattle.bits.proofs.Words.{same-members, word-members, part-members}
 use Rattle.listing.specs.Placed.{Placed}
 use Rattle.listing.proofs.Placing.{placed-start, placed-append, placed_one, placed-long}
@@ -37,19 +37,19 @@ place_is x i =
 
     far : (j : ℕ) → 4 ≤ j → members (x / 2 ^ (i * 4) % 16) j ≡ (ltb j 4 && members x (i * 4 + j))
     far j l =
-        ap (λ (b : ℕ). eqb b 1) (bit-above 4 (x / 2 ^ (i * 4) % 16) j (omega arith) l)
+        ap (λ (b : ℕ). eqb b 1) (bit_above 4 (x / 2 ^ (i * 4) % 16) j (omega arith) l)
         ∙ ap (λ (t : Bool). t && members x (i * 4 + j)) (sym (le-ltb j 4 l))
 
 pub place-fits : (x i : ℕ) → place x i < 16
 place-fits x i = omega (arith, place_is x i)
 
-pub letter-low : (d : ℕ) → d < 10 → 48 + d ≡ letter d
+pub letter_low : (d : ℕ) → d < 10 → 48 + d ≡ letter d
 unfolding letter
-letter-low d l = rw (lt-ltb d 10 l)
+letter_low d l = rw (lt-ltb d 10 l)
 
-pub letter-high : (d : ℕ) → 10 ≤ d → 55 + d ≡ letter d
+pub letter_high : (d : ℕ) → 10 ≤ d → 55 + d ≡ letter d
 unfolding letter
-letter-high d l = rw (le-ltb d 10 l)
+letter_high d l = rw (le-ltb d 10 l)
 
 -- ---- the digits, one after the other
 
@@ -69,8 +69,8 @@ module _ (entry : List ℕ) (at count x : ℕ) (room : at + count ≤ length ent
   pub writing_start : Writing entry at count x entry at count
   writing_start = record { done = []; whole = refl; few = omega arith; placed = placed-start entry at }
 
-  pub writing-next : (out : List ℕ) (next left : ℕ) → Writing entry at count x out next left → (next + left ≡ at + count) × (length out ≡ length entry)
-  writing-next out next left w =
+  pub writing_next : (out : List ℕ) (next left : ℕ) → Writing entry at count x out next left → (next + left ≡ at + count) × (length out ≡ length entry)
+  writing_next out next left w =
       let past : next + left ≡ at + count = omega (arith, w.placed.past, w.few) in
       (past, placed-long w.placed (omega (arith, past)))
 
@@ -80,7 +80,7 @@ module _ (entry : List ℕ) (at count x : ℕ) (room : at + count ≤ length ent
   writing_more out next zero w l = absurd (omega arith)
   writing_more out next (suc left) w l =
       let c = letter (place x left) in
-      let s = writing-next out next (suc left) w in
+      let s = writing_next out next (suc left) w in
       let less : suc left - 1 ≡ left = omega arith in
       rw less record {
         done = w.done ++ (c ∷ []);
@@ -89,10 +89,10 @@ module _ (entry : List ℕ) (at count x : ℕ) (room : at + count ≤ length ent
         placed = placed-append (omega arith) w.placed (placed_one out next c (omega (arith, s)));
       }
 
-  pub writing-end : (out : List ℕ) (next left : ℕ) → Writing entry at count x out next left → left ≤ 0 → Placed entry at (digits count x) out next
+  pub writing_end : (out : List ℕ) (next left : ℕ) → Writing entry at count x out next left → left ≤ 0 → Placed entry at (digits count x) out next
   unfolding digits
-  writing-end out next zero w l = rw (← w.whole, append-nil) w.placed
-  writing-end out next (suc left) w l = absurd (omega arith)
+  writing_end out next zero w l = rw (← w.whole, append-nil) w.placed
+  writing_end out next (suc left) w l = absurd (omega arith)
 
 -- ---- one after the other
 
@@ -106,22 +106,22 @@ pub pair-long : (n x y : ℕ) → length (digits n x ++ digits n y) ≡ n + n
 pair-long n x y = length-append (digits n x) (digits n y) ∙ ap₂ ◌+◌ (digits_long n x) (digits_long n y)
 
 -- four parts, however they were put together
-pub four-parts : (a b x y : List ℕ) → (a ++ b) ++ (x ++ y) ≡ a ++ ((b ++ x) ++ y)
-four-parts a b x y = append_assoc a b (x ++ y) ∙ ap (λ (l : List ℕ). a ++ l) (sym (append_assoc b x y))
+pub four_parts : (a b x y : List ℕ) → (a ++ b) ++ (x ++ y) ≡ a ++ ((b ++ x) ++ y)
+four_parts a b x y = append_assoc a b (x ++ y) ∙ ap (λ (l : List ℕ). a ++ l) (sym (append_assoc b x y))
 
 -- a Boolean as a number
-pub bool-number : (b : Bool) → bool_byte b ≡ cond b 1 0
-bool-number true = refl
-bool-number false = refl
+pub bool_number : (b : Bool) → bool_byte b ≡ cond b 1 0
+bool_number true = refl
+bool_number false = refl
 
 -- ---- two's complement
 
-pub complement-nonneg : (z : ℤ) (n : ℕ) (b : Bool) → n ≡ nat_abs z → b ≡ non_neg z → b ≡ true → n ≡ complement z
+pub complement_nonneg : (z : ℤ) (n : ℕ) (b : Bool) → n ≡ nat_abs z → b ≡ non_neg z → b ≡ true → n ≡ complement z
 unfolding complement
-complement-nonneg (pos k) n b e h t = e
-complement-nonneg (negsuc k) n b e h t = clash t h
+complement_nonneg (pos k) n b e h t = e
+complement_nonneg (negsuc k) n b e h t = clash t h
 
-pub complement-ceases : (z : ℤ) (n : ℕ) (b : Bool) → n ≡ nat_abs z → b ≡ non_neg z → b ≡ false → (1 ≤ n) × (4294967295 - (n - 1) ≡ complement z)
+pub complement_ceases : (z : ℤ) (n : ℕ) (b : Bool) → n ≡ nat_abs z → b ≡ non_neg z → b ≡ false → (1 ≤ n) × (4294967295 - (n - 1) ≡ complement z)
 unfolding complement
-complement-ceases (pos k) n b e h f = clash h f
-complement-ceases (negsuc k) n b e h f = (omega arith, omega arith)
+complement_ceases (pos k) n b e h f = clash h f
+complement_ceases (negsuc k) n b e h f = (omega arith, omega arith)

@@ -5,15 +5,15 @@ use Rattle.promises.specs.Rules.{Rule, rule, verdict}
 use Rattle.frames.specs.declared.Progress.{Progress}
 use Rattle.frames.specs.declared.Taken.TheVariants as T
 use Rattle.frames.specs.Frames.{frame_of}
-use Rattle.frames.specs.Lines.{linesAfter, frontSize, Gathers}
+use Rattle.frames.specs.Lines.{lines_after, front_size, Gathers}
 use Rattle.frames.specs.Outputs.{each}
-use Rattle.frames.specs.Machine.{Memory, memory, outputSize, memoryRules, Answers, Stepped}
+use Rattle.frames.specs.Machine.{Memory, memory, output_size, memory_rules, Answers, Stepped}
 use Rattle.frames.specs.Moments.{start}
-use Rattle.frames.specs.Program.{Line, lent, LineByLine, printedBy, bytes_of, Whole}
+use Rattle.frames.specs.Program.{Line, lent, LineByLine, printed_by, bytes_of, Whole}
 
 -- the rules of the lent memory, to which the memory of a line's front belongs
-abbrev pub inputRules : Memory → List ℕ → List Rule
-inputRules m front = rule 3 (ltb (length front) frontSize) ∷ memoryRules m
+abbrev pub input_rules : Memory → List ℕ → List Rule
+input_rules m front = rule 3 (ltb (length front) front_size) ∷ memory_rules m
 
 -- Where the pass over a block stands: the memory of the front and how much of it the line begun has, the place in the block, how many bytes of
 -- output are written, and the machine's memory.
@@ -28,27 +28,27 @@ abbrev pub point : List ℕ → ℕ → ℕ → ℕ → Memory → Point
 point front begun at written m = record { front = front; begun = begun; at = at; written = written; memory = m }
 
 -- a line is answered in the output after the answers before it
-abbrev pub outputAfter : ℕ → Memory → Memory
-outputAfter written m = memory m.counts m.words m.session m.room (drop written m.out)
+abbrev pub output_after : ℕ → Memory → Memory
+output_after written m = memory m.counts m.words m.session m.room (drop written m.out)
 
-abbrev pub withOutput : List ℕ → Memory → Memory
-withOutput before m = memory m.counts m.words m.session m.room (before ++ m.out)
+abbrev pub with_output : List ℕ → Memory → Memory
+with_output before m = memory m.counts m.words m.session m.room (before ++ m.out)
 
 -- there are bytes to come in the block, and room for one answer more
 abbrev pub GoesOn : List ℕ → Point → Type 0
-GoesOn block p = (p.at < length block) × (p.written + outputSize ≤ length p.memory.out)
+GoesOn block p = (p.at < length block) × (p.written + output_size ≤ length p.memory.out)
 
 -- The pass, from one point to where it stops.
 pub data Passes (block : List ℕ) : Point → Point → Type 0 where
-  stops : {p : Point} → (length block ≤ p.at) ⊎ (length p.memory.out < p.written + outputSize) → Passes block p p
+  stops : {p : Point} → (length block ≤ p.at) ⊎ (length p.memory.out < p.written + output_size) → Passes block p p
   -- no line ends in the rest of the block
   begins : {p q : Point} (front' : List ℕ) (begun' at' : ℕ) → GoesOn block p → Gathers p.front p.begun block p.at front' begun' at' false
       → Passes block (point front' begun' at' p.written p.memory) q → Passes block p q
   -- a line ends, and the machine takes it
   answers : {p q : Point} (front' : List ℕ) (begun' at' n : ℕ) (left : Memory) → GoesOn block p
       → Gathers p.front p.begun block p.at front' begun' at' true
-      → Stepped (outputAfter p.written p.memory) (take begun' front') (T.Written n) left
-      → Passes block (point front' 0 at' (p.written + n) (withOutput (take p.written p.memory.out) left)) q → Passes block p q
+      → Stepped (output_after p.written p.memory) (take begun' front') (T.Written n) left
+      → Passes block (point front' 0 at' (p.written + n) (with_output (take p.written p.memory.out) left)) q → Passes block p q
 
 -- a call that the lent memory refuses: nothing is taken and nothing is written
 abbrev pub Refuses : ℕ → ℕ → Progress → Type 0
@@ -56,16 +56,16 @@ Refuses n begun r = (r.rule ≡ n) × (r.written ≡ 0) × (r.at ≡ 0) × (r.be
 
 -- A block: the pass over it from its first byte, from a line begun in the front.
 pub record BlockTaken (m : Memory) (front : List ℕ) (begun : ℕ) (block : List ℕ) (r : Progress) (m' : Memory) (front' : List ℕ) : Type 0 where
-  pub refuses : (verdict (inputRules m front) ≡ 0 → ⊥) → Refuses (verdict (inputRules m front)) begun r × (m' ≡ m) × (front' ≡ front)
-  pub passes : verdict (inputRules m front) ≡ 0
+  pub refuses : (verdict (input_rules m front) ≡ 0 → ⊥) → Refuses (verdict (input_rules m front)) begun r × (m' ≡ m) × (front' ≡ front)
+  pub passes : verdict (input_rules m front) ≡ 0
       → (r.rule ≡ 0) × Passes block (point front begun 0 0 m) (point front' r.begun r.at r.written m')
 
 -- "or the input's end. Where nothing follows the last line feed there is no further line."
 pub record InputEnded (m : Memory) (front : List ℕ) (begun : ℕ) (r : Progress) (m' : Memory) : Type 0 where
-  pub refuses : (verdict (inputRules m front) ≡ 0 → ⊥) → Refuses (verdict (inputRules m front)) begun r × (m' ≡ m)
-  pub told : verdict (inputRules m front) ≡ 0 → (r.rule ≡ 0) × (r.at ≡ 0) × (r.begun ≡ 0)
-  pub none : verdict (inputRules m front) ≡ 0 → begun ≡ 0 → (r.written ≡ 0) × (m' ≡ m)
-  pub line : verdict (inputRules m front) ≡ 0 → 0 < begun → Answers m (take begun front) r.written m'
+  pub refuses : (verdict (input_rules m front) ≡ 0 → ⊥) → Refuses (verdict (input_rules m front)) begun r × (m' ≡ m)
+  pub told : verdict (input_rules m front) ≡ 0 → (r.rule ≡ 0) × (r.at ≡ 0) × (r.begun ≡ 0)
+  pub none : verdict (input_rules m front) ≡ 0 → begun ≡ 0 → (r.written ≡ 0) × (m' ≡ m)
+  pub line : verdict (input_rules m front) ≡ 0 → 0 < begun → Answers m (take begun front) r.written m'
 
 -- A sequence of calls to the input's end, from a memory and the bytes of a line begun, over the input to come: its outputs one after the other.
 -- Each call is lent a change room, an output and a memory of the front of its own, whatever their lengths are, and as its block the first bytes
@@ -96,6 +96,6 @@ Leads m begun bytes output m' begun' =
 pub record InputAnswered (m : Memory) (input output : List ℕ) : Type 1 where
   pub lines : List Line
   pub taken : LineByLine m lines
-  pub prints : each printedBy lines ≡ output
-  pub frames : map frame_of (bytes_of lines) ≡ map frame_of (linesAfter [] input)
+  pub prints : each printed_by lines ≡ output
+  pub frames : map frame_of (bytes_of lines) ≡ map frame_of (lines_after [] input)
   pub whole : Whole start m lines

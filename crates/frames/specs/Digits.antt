@@ -12,12 +12,12 @@ unfoldable pub hexadecimal : List ℕ → Bool
 hexadecimal bs = all_below (length bs) (λ i. ltb (digit (get_or bs i 0)) 16)
 
 -- the number that digits write after the number n
-unfoldable pub numberFrom : ℕ → List ℕ → ℕ
-numberFrom n [] = n
-numberFrom n (c ∷ cs) = numberFrom (n * 16 + digit c) cs
+unfoldable pub number_from : ℕ → List ℕ → ℕ
+number_from n [] = n
+number_from n (c ∷ cs) = number_from (n * 16 + digit c) cs
 
 abbrev pub number : List ℕ → ℕ
-number = numberFrom 0
+number = number_from 0
 
 -- the byte of a digit
 unfoldable pub letter : ℕ → ℕ

@@ -1,16 +1,16 @@
 -- What the program's machine promises when it takes one line, whatever the line and the lent memory are.
 use Rattle.std.specs.Prelude.{ℕ, ◌+◌, ◌*◌, ◌^◌, ◌%◌, ◌≤◌, ◌≡◌, Bool, ◌||◌, cond, List, [], ◌∷◌, ◌++◌, ltb, leb, ℤ, length, get_or, set, drop}
-use Rattle.session.specs.Limits.{maxStates, maxNodes, maxChanges, fixedSize}
+use Rattle.session.specs.Limits.{max_states, max_nodes, max_changes, fixed_size}
 use Rattle.session.specs.Layout.{part}
 use Rattle.promises.specs.declared.Answer.{Answer}
 use Rattle.promises.specs.declared.StateOrder.{StateOrder}
-use Rattle.promises.specs.Answers.{Outcome, Summary, accepted, refused, told, toldOrder, handedBack}
+use Rattle.promises.specs.Answers.{Outcome, Summary, accepted, refused, told, told_order, handed_back}
 use Rattle.promises.specs.Rules.{Rule, rule, verdict, Given, given, Kind}
 use Rattle.promises.specs.Promises.{Loaded, Edited, Ordered}
 use Rattle.frames.specs.declared.Taken.{Taken}
 use Rattle.frames.specs.declared.Taken.TheVariants as T
 use Rattle.frames.specs.Frames.{Frame, state, node, run, edit, walk, nothing, frame_of}
-use Rattle.frames.specs.Outputs.{refusal, reportSize, changeSize, answered, ordered}
+use Rattle.frames.specs.Outputs.{refusal, report_size, change_size, answered, ordered}
 
 -- The lent memory. Counts: 0 before an accepted run and 1 after it, the number of states read, the number of nodes read, the inverted states, the
 -- states' links.
@@ -25,68 +25,68 @@ pub record Memory : Type 0 where
 abbrev pub memory : List ℕ → List ℕ → List ℕ → List ℤ → List ℕ → Memory
 memory counts words session room out = record { counts = counts; words = words; session = session; room = room; out = out }
 
-abbrev pub invertedIn : ℕ
-invertedIn = 3
+abbrev pub inverted_in : ℕ
+inverted_in = 3
 
-abbrev pub linksIn : ℕ
-linksIn = invertedIn + 1
+abbrev pub links_in : ℕ
+links_in = inverted_in + 1
 
-abbrev pub countsSize : ℕ
-countsSize = linksIn + maxStates
+abbrev pub counts_size : ℕ
+counts_size = links_in + max_states
 
-abbrev pub valuesIn : ℕ
-valuesIn = maxStates
+abbrev pub values_in : ℕ
+values_in = max_states
 
-abbrev pub samplesIn : ℕ
-samplesIn = valuesIn + maxStates
+abbrev pub samples_in : ℕ
+samples_in = values_in + max_states
 
-abbrev pub wordsSize : ℕ
-wordsSize = samplesIn + maxNodes
+abbrev pub words_size : ℕ
+words_size = samples_in + max_nodes
 
 -- the longest answer: a report, and a change for each place of the change room
-abbrev pub outputSize : ℕ
-outputSize = reportSize + changeSize * maxChanges
+abbrev pub output_size : ℕ
+output_size = report_size + change_size * max_changes
 
-abbrev pub statesRead : Memory → ℕ
-statesRead m = get_or m.counts 1 0
+abbrev pub states_read : Memory → ℕ
+states_read m = get_or m.counts 1 0
 
-abbrev pub nodesRead : Memory → ℕ
-nodesRead m = get_or m.counts 2 0
+abbrev pub nodes_read : Memory → ℕ
+nodes_read m = get_or m.counts 2 0
 
 -- long enough for all that a line can need but its room and its output, and not more read than there may be
 pub record Ready (m : Memory) : Type 0 where
-  pub counts : countsSize ≤ length m.counts
-  pub words : wordsSize ≤ length m.words
-  pub session : fixedSize ≤ length m.session
-  pub few-states : statesRead m ≤ maxStates
-  pub few-nodes : nodesRead m ≤ maxNodes
+  pub counts : counts_size ≤ length m.counts
+  pub words : words_size ≤ length m.words
+  pub session : fixed_size ≤ length m.session
+  pub few_states : states_read m ≤ max_states
+  pub few_nodes : nodes_read m ≤ max_nodes
 
 -- the inverted ones among the states read
-abbrev pub invertedRead : Memory → ℕ
-invertedRead m = get_or m.counts invertedIn 0 % 2 ^ statesRead m
+abbrev pub inverted_read : Memory → ℕ
+inverted_read m = get_or m.counts inverted_in 0 % 2 ^ states_read m
 
 -- "the states and nodes read so far", as a load without edges
-unfoldable pub readSoFar : Memory → Given
-readSoFar m =
-    let n = statesRead m in
-    given (part m.words 0 n) (part m.words valuesIn n) (part m.counts linksIn n) (invertedRead m) (part m.words samplesIn (nodesRead m)) [] []
+unfoldable pub read_so_far : Memory → Given
+read_so_far m =
+    let n = states_read m in
+    given (part m.words 0 n) (part m.words values_in n) (part m.counts links_in n) (inverted_read m) (part m.words samples_in (nodes_read m)) [] []
 
 -- what the memory itself may break: too short, or counts out of range
-abbrev pub tooSmall : Memory → Bool
-tooSmall m =
-    (ltb (length m.counts) countsSize || ltb (length m.words) wordsSize)
-    || (ltb (length m.session) fixedSize || (ltb (length m.room) maxChanges || ltb (length m.out) outputSize))
+abbrev pub too_small : Memory → Bool
+too_small m =
+    (ltb (length m.counts) counts_size || ltb (length m.words) words_size)
+    || (ltb (length m.session) fixed_size || (ltb (length m.room) max_changes || ltb (length m.out) output_size))
 
 abbrev pub miscounted : Memory → Bool
-miscounted m = ltb 1 (get_or m.counts 0 0) || (ltb maxStates (statesRead m) || ltb maxNodes (nodesRead m))
+miscounted m = ltb 1 (get_or m.counts 0 0) || (ltb max_states (states_read m) || ltb max_nodes (nodes_read m))
 
-abbrev pub memoryRules : Memory → List Rule
-memoryRules m = rule 3 (tooSmall m) ∷ rule 10 (miscounted m) ∷ []
+abbrev pub memory_rules : Memory → List Rule
+memory_rules m = rule 3 (too_small m) ∷ rule 10 (miscounted m) ∷ []
 
 -- how many bytes of output a line gave, or the rule that the memory breaks
-abbrev pub toldTaken : Taken → Outcome ℕ
-toldTaken (T.Written n) = accepted n
-toldTaken (T.Refused n) = refused n
+abbrev pub told_taken : Taken → Outcome ℕ
+told_taken (T.Written n) = accepted n
+told_taken (T.Refused n) = refused n
 
 -- these bytes at the front of the output, and nothing else written
 abbrev pub printing : List ℕ → Memory → Memory
@@ -98,16 +98,16 @@ pub record Prints (bytes : List ℕ) (m : Memory) (n : ℕ) (m' : Memory) : Type
   pub left : m' ≡ printing bytes m
 
 -- one state more, or one node more
-abbrev pub stateKept : Memory → Bool → ℕ → ℕ → ℕ → Memory
-stateKept m inverted mask value links =
-    let n = statesRead m in
-    memory (set (set (set m.counts (linksIn + n) links) invertedIn (invertedRead m + cond inverted (2 ^ n) 0)) 1 (n + 1))
-    (set (set m.words n mask) (valuesIn + n) value) m.session m.room m.out
+abbrev pub state_kept : Memory → Bool → ℕ → ℕ → ℕ → Memory
+state_kept m inverted mask value links =
+    let n = states_read m in
+    memory (set (set (set m.counts (links_in + n) links) inverted_in (inverted_read m + cond inverted (2 ^ n) 0)) 1 (n + 1))
+    (set (set m.words n mask) (values_in + n) value) m.session m.room m.out
 
-abbrev pub nodeKept : Memory → ℕ → Memory
-nodeKept m sample =
-    let n = nodesRead m in
-    memory (set m.counts 2 (n + 1)) (set m.words (samplesIn + n) sample) m.session m.room m.out
+abbrev pub node_kept : Memory → ℕ → Memory
+node_kept m sample =
+    let n = nodes_read m in
+    memory (set m.counts 2 (n + 1)) (set m.words (samples_in + n) sample) m.session m.room m.out
 
 -- the moment after a run
 abbrev pub moved : Outcome Summary → List ℕ → List ℕ
@@ -121,27 +121,27 @@ KeptOrFull full rule m m⁺ n m' = Prints (cond full (refusal rule) []) (cond fu
 -- The run: the load of what was read so far, and its answer.
 pub record Ran (m : Memory) (n : ℕ) (m' : Memory) : Type 0 where
   pub answer : Answer
-  pub loads : Loaded (readSoFar m) m.session m.room answer m'.session m'.room
-  pub prints : Prints (answered (told answer) (handedBack m'.room answer))
+  pub loads : Loaded (read_so_far m) m.session m.room answer m'.session m'.room
+  pub prints : Prints (answered (told answer) (handed_back m'.room answer))
       (memory (moved (told answer) m.counts) m.words m'.session m'.room m.out) n m'
 
 -- An edit by the library's call.
 pub record Changed (k : Kind) (a b : ℕ) (m : Memory) (n : ℕ) (m' : Memory) : Type 0 where
   pub answer : Answer
   pub edits : Edited k m.session a b m.room answer m'.session m'.room
-  pub prints : Prints (answered (told answer) (handedBack m'.room answer))
+  pub prints : Prints (answered (told answer) (handed_back m'.room answer))
       (memory m.counts m.words m'.session m'.room m.out) n m'
 
 -- The depth-first order by the library's call.
 pub record Walked (m : Memory) (n : ℕ) (m' : Memory) : Type 0 where
   pub order : StateOrder
   pub orders : Ordered m.session order
-  pub prints : Prints (ordered (toldOrder order.answer) order.states) m n m'
+  pub prints : Prints (ordered (told_order order.answer) order.states) m n m'
 
 -- What a frame comes to, before an accepted run and after it: rule 1 comes before 2, and 2 before those of the states, the nodes and the calls.
 abbrev pub Before : Frame → Memory → ℕ → Memory → Type 0
-Before (state inverted mask value links) m n m' = KeptOrFull (leb maxStates (statesRead m)) 4 m (stateKept m inverted mask value links) n m'
-Before (node sample) m n m' = KeptOrFull (leb maxNodes (nodesRead m)) 6 m (nodeKept m sample) n m'
+Before (state inverted mask value links) m n m' = KeptOrFull (leb max_states (states_read m)) 4 m (state_kept m inverted mask value links) n m'
+Before (node sample) m n m' = KeptOrFull (leb max_nodes (nodes_read m)) 6 m (node_kept m sample) n m'
 Before run m n m' = Ran m n m'
 Before (edit k a b) m n m' = Prints (refusal 2) m n m'
 Before walk m n m' = Prints (refusal 2) m n m'
@@ -163,5 +163,5 @@ pub record Answers (m : Memory) (line : List ℕ) (n : ℕ) (m' : Memory) : Type
 -- The whole promise. The memory's own rules come first, whatever the line is: where they are broken there is no place to print in, and nothing
 -- is written.
 pub record Stepped (m : Memory) (line : List ℕ) (r : Taken) (m' : Memory) : Type 0 where
-  pub refuses : (verdict (memoryRules m) ≡ 0 → ⊥) → (toldTaken r ≡ refused (verdict (memoryRules m))) × (m' ≡ m)
-  pub answers : verdict (memoryRules m) ≡ 0 → (n : ℕ) × (toldTaken r ≡ accepted n) × Answers m line n m'
+  pub refuses : (verdict (memory_rules m) ≡ 0 → ⊥) → (told_taken r ≡ refused (verdict (memory_rules m))) × (m' ≡ m)
+  pub answers : verdict (memory_rules m) ≡ 0 → (n : ℕ) × (told_taken r ≡ accepted n) × Answers m line n m'

@@ -1,11 +1,11 @@
 -- 01, "Frames": what the program prints, told from the lines alone. Nothing here speaks of memory.
 use Rattle.std.specs.Prelude.{ℕ, ◌+◌, ◌^◌, Bool, true, cond, List, [], ◌∷◌, ◌++◌, map, leb, eqb, length}
-use Rattle.session.specs.Limits.{maxStates, maxNodes, maxChanges, fixedSize}
+use Rattle.session.specs.Limits.{max_states, max_nodes, max_changes, fixed_size}
 use Rattle.listing.specs.Order.{order}
 use Rattle.promises.specs.Answers.{accepted}
-use Rattle.promises.specs.Rules.{Rule, rule, verdict, Given, given, givenTrigger, givenGraph, Kind, loadRules}
-use Rattle.promises.specs.Promises.{loadList}
-use Rattle.promises.specs.Model.{Model, begun, modelRules, step, editing, loadSummary, editList, editSummary}
+use Rattle.promises.specs.Rules.{Rule, rule, verdict, Given, given, given_trigger, given_graph, Kind, load_rules}
+use Rattle.promises.specs.Promises.{load_list}
+use Rattle.promises.specs.Model.{Model, begun, model_rules, step, editing, load_summary, edit_list, edit_summary}
 use Rattle.frames.specs.Frames.{Frame, state, node, run, edit, walk, nothing, frame_of}
 use Rattle.frames.specs.Lines.{lines}
 use Rattle.frames.specs.Outputs.{refusal, answered, walked}
@@ -19,20 +19,20 @@ abbrev pub start : Moment
 start = reading (given [] [] [] 0 [] [] [])
 
 -- one state more, which has the next bit of the inverted states, or one node more
-abbrev pub withState : Given → Bool → ℕ → ℕ → ℕ → Given
-withState x inverted mask value links =
+abbrev pub with_state : Given → Bool → ℕ → ℕ → ℕ → Given
+with_state x inverted mask value links =
     given (x.masks ++ (mask ∷ [])) (x.values ++ (value ∷ [])) (x.links ++ (links ∷ [])) (x.inverted + cond inverted (2 ^ length x.masks) 0)
     x.samples x.starts x.ends
 
-abbrev pub withNode : Given → ℕ → Given
-withNode x sample = given x.masks x.values x.links x.inverted (x.samples ++ (sample ∷ [])) x.starts x.ends
+abbrev pub with_node : Given → ℕ → Given
+with_node x sample = given x.masks x.values x.links x.inverted (x.samples ++ (sample ∷ [])) x.starts x.ends
 
 -- the reports of a run and of an edit
-abbrev pub runLines : Given → List ℕ
-runLines x = answered (accepted (loadSummary x)) (loadList (givenTrigger x) (givenGraph x))
+abbrev pub run_lines : Given → List ℕ
+run_lines x = answered (accepted (load_summary x)) (load_list (given_trigger x) (given_graph x))
 
-abbrev pub editLines : Model → Kind → ℕ → ℕ → List ℕ
-editLines m k a b = answered (accepted (editSummary m k a b)) (editList m k a b)
+abbrev pub edit_lines : Model → Kind → ℕ → ℕ → List ℕ
+edit_lines m k a b = answered (accepted (edit_summary m k a b)) (edit_list m k a b)
 
 -- what a frame meets: the rules in sequence, and where it breaks none, the bytes that it prints and the moment after it
 pub record Reply : Type 0 where
@@ -51,16 +51,16 @@ breaks n moment = carries (rule n true ∷ []) [] moment
 -- "Accepted states and nodes print nothing."
 abbrev pub reply : Moment → Frame → Reply
 reply (reading x) (state inverted mask value links) =
-    carries (rule 4 (leb maxStates (length x.masks)) ∷ []) [] (reading (withState x inverted mask value links))
-reply (reading x) (node sample) = carries (rule 6 (leb maxNodes (length x.samples)) ∷ []) [] (reading (withNode x sample))
-reply (reading x) run = carries (loadRules fixedSize maxChanges x) (runLines x) (running (begun x))
+    carries (rule 4 (leb max_states (length x.masks)) ∷ []) [] (reading (with_state x inverted mask value links))
+reply (reading x) (node sample) = carries (rule 6 (leb max_nodes (length x.samples)) ∷ []) [] (reading (with_node x sample))
+reply (reading x) run = carries (load_rules fixed_size max_changes x) (run_lines x) (running (begun x))
 reply (reading x) (edit k a b) = breaks 2 (reading x)
 reply (reading x) walk = breaks 2 (reading x)
 reply (reading x) nothing = breaks 1 (reading x)
 reply (running m) (state inverted mask value links) = breaks 2 (running m)
 reply (running m) (node sample) = breaks 2 (running m)
 reply (running m) run = breaks 2 (running m)
-reply (running m) (edit k a b) = carries (modelRules m (editing k a b)) (editLines m k a b) (running (step m (editing k a b)))
+reply (running m) (edit k a b) = carries (model_rules m (editing k a b)) (edit_lines m k a b) (running (step m (editing k a b)))
 reply (running m) walk = carries [] (walked (order m.trigger)) (running m)
 reply (running m) nothing = breaks 1 (running m)
 

@@ -12,12 +12,12 @@ unfoldable pub refusal : ℕ → List ℕ
 refusal n = line 0x8F (digits 2 n)
 
 -- "`80` accepted (fires 2, `01` or `00`; trial count 4; number of changes 4)"
-unfoldable pub reportLine : Bool → ℕ → ℕ → List ℕ
-reportLine fires trials changes = line 0x80 (digits 2 (cond fires 1 0) ++ (digits 4 trials ++ digits 4 changes))
+unfoldable pub report_line : Bool → ℕ → ℕ → List ℕ
+report_line fires trials changes = line 0x80 (digits 2 (cond fires 1 0) ++ (digits 4 trials ++ digits 4 changes))
 
 -- a report's line has so many bytes
-abbrev pub reportSize : ℕ
-reportSize = 13
+abbrev pub report_size : ℕ
+report_size = 13
 
 -- "then `81` for each change (8 digits, two's complement)"
 unfoldable pub complement : ℤ → ℕ
@@ -28,8 +28,8 @@ unfoldable pub changed : ℤ → List ℕ
 changed z = line 0x81 (digits 8 (complement z))
 
 -- and a change's
-abbrev pub changeSize : ℕ
-changeSize = 11
+abbrev pub change_size : ℕ
+change_size = 11
 
 -- what is written for each of a list, one after the other
 unfoldable pub each : {A : Type 0} → (A → List ℕ) → List A → List ℕ
@@ -42,7 +42,7 @@ walked states = line 0x82 (each (digits 2) states)
 
 -- an answer of the library with the list that it hands back, and an order of states
 abbrev pub answered : A.Outcome A.Summary → List ℤ → List ℕ
-answered (A.accepted s) list = reportLine s.fires s.trials s.changes ++ each changed list
+answered (A.accepted s) list = report_line s.fires s.trials s.changes ++ each changed list
 answered (A.refused n) list = refusal n
 
 abbrev pub ordered : A.Outcome ℕ → List ℕ → List ℕ

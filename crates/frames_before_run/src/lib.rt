@@ -1,6 +1,6 @@
 // Frames before an accepted run: a state or a node is kept, and the run loads what was read.
 ghost use Rattle.std.specs.Prelude.{◌≡◌, cond, List, ℕ, ◌+◌, ◌^◌, ◌%◌, ◌<◌, ◌≤◌, ℤ, length, get_or};
-ghost use Rattle.session.specs.Limits.{maxStates, maxNodes};
+ghost use Rattle.session.specs.Limits.{max_states, max_nodes};
 ghost use Rattle.promises.specs.Answers.{told};
 ghost use Rattle.frames.specs.Frames as f;
 ghost use Rattle.frames.specs.Machine as m;
@@ -24,7 +24,7 @@ pub const NOTHING: usize = 0;
 
 // The inverted states among the first n, and whether the next state is one.
 pub fn also_inverted(set: u32, n: u32, inverted: bool) -> u32
-    requires { n < maxStates }
+    requires { n < max_states }
     ensures { result ≡ set % 2 ^ n + cond inverted (2 ^ n) 0 }
 {
     bits::kept_below(set, n) + bits::picked(bits::only(n), inverted)
@@ -82,7 +82,7 @@ pub fn run_line(
     changes: &mut [i32],
     out: &mut [u8],
 ) -> usize
-    requires { (m.countsSize ≤ length counts.old) × (m.wordsSize ≤ length words.now) × (m.outputSize ≤ length out.old) × (get_or counts.old 1 0 ≤ maxStates) × (get_or counts.old 2 0 ≤ maxNodes) }
+    requires { (m.countsSize ≤ length counts.old) × (m.wordsSize ≤ length words.now) × (m.outputSize ≤ length out.old) × (get_or counts.old 1 0 ≤ max_states) × (get_or counts.old 2 0 ≤ max_nodes) }
     ensures { m.Ran (m.memory counts.old words.now session.old changes.old out.old) result (m.memory counts.new words.now session.new changes.new out.new) }
 {
     let states = counts[1] as usize;
@@ -115,7 +115,7 @@ pub fn before_run(
     frame: Frame,
     out: &mut [u8],
 ) -> usize
-    requires { (m.countsSize ≤ length counts.old) × (m.wordsSize ≤ length words.old) × (m.outputSize ≤ length out.old) × (get_or counts.old 1 0 ≤ maxStates) × (get_or counts.old 2 0 ≤ maxNodes) }
+    requires { (m.countsSize ≤ length counts.old) × (m.wordsSize ≤ length words.old) × (m.outputSize ≤ length out.old) × (get_or counts.old 1 0 ≤ max_states) × (get_or counts.old 2 0 ≤ max_nodes) }
     ensures { m.Before (f.said frame) (m.memory counts.old words.old session.old changes.old out.old) result (m.memory counts.new words.new session.new changes.new out.new) }
 {
     match frame {

@@ -14,14 +14,14 @@ use Rattle.simulation.specs.Sets.{Set, also, union, without}
 use Rattle.simulation.proofs.Sets.{split, same, or_l, or-both}
 use Rattle.bits.specs.Word.{members}
 use Rattle.bits.proofs.Words.{and-members, same-members}
-use Rattle.links.specs.Links.{linksTo}
+use Rattle.links.specs.Links.{links_to}
 use Rattle.pair_tables.specs.Tables.{marked}
-use Rattle.worklist.specs.Waiting.{waits, waitingWords}
+use Rattle.worklist.specs.Waiting.{waits, waiting_words}
 use Rattle.edge_indexes.specs.Indexes.{Indexed}
 use Rattle.refinement.specs.Refining.{Sound}
-use Rattle.edge_indexes.proofs.Incoming.{Chained, chained-head, chained-next, called, called-head, called-next, called-all}
+use Rattle.edge_indexes.proofs.Incoming.{Chained, chained_head, chained_next, called, called-head, called-next, called-all}
 use Rattle.growth.specs.Growth.{TriedAt, Spread}
-use Rattle.session.specs.Limits.{maxNodes}
+use Rattle.session.specs.Limits.{max_nodes}
 
 -- ---- a node that gains states
 
@@ -30,8 +30,8 @@ module _ (ts ws : List ℕ) (v more wider : ℕ) (wide : members wider ≡ union
       → TriedAt ts ws v more (set ts v wider) ws'
   tried-more {ws'} l long ne e =
       record {
-        table-long = length-set ts v wider;
-        waits-long = long;
+        table_long = length-set ts v wider;
+        waits_long = long;
         words = λ u w. ⊎_elim (λ (t : eqb w v ≡ true). here u w t) (λ (t : eqb w v ≡ false). away u w t) (split (eqb w v));
         waiting = λ w. ap (λ (X : Set). X w) e ∙ ap (λ (b : Bool). waits ws w || b) (changed w);
       }
@@ -54,8 +54,8 @@ module _ (ts ws : List ℕ) (v more wider : ℕ) (wide : members wider ≡ union
   pub tried-none : wider ≡ get_or ts v 0 → TriedAt ts ws v more ts ws
   tried-none e =
       record {
-        table-long = refl;
-        waits-long = refl;
+        table_long = refl;
+        waits_long = refl;
         words = λ u w. sym (⊎_elim (λ (t : eqb w v ≡ true). here u w t) (λ (t : eqb w v ≡ false). rw (t, or-false) refl) (split (eqb w v)));
         waiting = λ w. sym (rw (eq-eqb (get_or ts w 0) (get_or ts w 0) refl, or-false) refl);
       }
@@ -67,34 +67,34 @@ module _ (ts ws : List ℕ) (v more wider : ℕ) (wide : members wider ≡ union
 
 -- `able` are the states with a link to v; the predecessors by the other edges have their pairs, and wait where they gained one
 pub record Spreading (es fs : List ℕ) (v able : ℕ) (ts ws ts' ws' : List ℕ) (n : ℕ) : Type 0 where
-  pub table-long : length ts' ≡ maxNodes
-  pub waits-long : length ws' ≡ waitingWords
+  pub table_long : length ts' ≡ max_nodes
+  pub waits_long : length ws' ≡ waiting_words
   pub chain : Chained es v n
   pub words : (u w : ℕ) → marked ts' u w ≡ (marked ts u w || (called es v n w && (marked fs u w && members able u)))
   pub waiting : (w : ℕ) → waits ws' w ≡ (waits ws w || not (eqb (get_or ts' w 0) (get_or ts w 0)))
 
 module _ {es heads nexts : List ℕ} (x : Indexed es heads nexts) (fs : List ℕ) (v able : ℕ) (ts ws : List ℕ) where
-  pub spreading-start : v < maxNodes → length ts ≡ maxNodes → length ws ≡ waitingWords → Spreading es fs v able ts ws ts ws (get_or heads v 0)
-  spreading-start h long waits-long =
+  pub spreading_start : v < max_nodes → length ts ≡ max_nodes → length ws ≡ waiting_words → Spreading es fs v able ts ws ts ws (get_or heads v 0)
+  spreading_start h long waits_long =
       record {
-        table-long = long;
-        waits-long = waits-long;
-        chain = chained-head x v h;
+        table_long = long;
+        waits_long = waits_long;
+        chain = chained_head x v h;
         words = λ u w. sym (rw (called-head x v w h, or-false) refl);
         waiting = λ w. sym (rw (eq-eqb (get_or ts w 0) (get_or ts w 0) refl, or-false) refl);
       }
 
   module _ {ts' ws' : List ℕ} {n : ℕ} (y : Spreading es fs v able ts ws ts' ws' n) (some : n ≡ 0 → ⊥) where
     abbrev start : ℕ
-    start = get_or es (n - 1) 0 / maxNodes
+    start = get_or es (n - 1) 0 / max_nodes
 
-    pub spreading-more : {ts'' ws'' : List ℕ} → TriedAt ts' ws' (get_or es (n - 1) 0 / maxNodes) (bit_and able (get_or fs (get_or es (n - 1) 0 / maxNodes) 0)) ts'' ws''
+    pub spreading_more : {ts'' ws'' : List ℕ} → TriedAt ts' ws' (get_or es (n - 1) 0 / max_nodes) (bit_and able (get_or fs (get_or es (n - 1) 0 / max_nodes) 0)) ts'' ws''
         → Spreading es fs v able ts ws ts'' ws'' (get_or nexts (n - 1) 0)
-    spreading-more {ts''} {ws''} t =
+    spreading_more {ts''} {ws''} t =
         record {
-          table-long = t.table-long ∙ y.table-long;
-          waits-long = t.waits-long ∙ y.waits-long;
-          chain = chained-next x y.chain some;
+          table_long = t.table_long ∙ y.table_long;
+          waits_long = t.waits_long ∙ y.waits_long;
+          chain = chained_next x y.chain some;
           words = words;
           waiting = waiting;
         }
@@ -144,17 +144,17 @@ module _ {es heads nexts : List ℕ} (x : Indexed es heads nexts) (fs : List ℕ
             ∙ ap (λ (b : Bool). waits ws w || b) (joined (get_or ts w 0) (get_or ts' w 0) (get_or ts'' w 0) (grows w))
 
 -- the last edge that is left starts at a node
-pub starts-inside : {links es : List ℕ} {v n : ℕ} → Sound maxNodes links es → Chained es v n → (n ≡ 0 → ⊥) → get_or es (n - 1) 0 / maxNodes < maxNodes
+pub starts-inside : {links es : List ℕ} {v n : ℕ} → Sound max_nodes links es → Chained es v n → (n ≡ 0 → ⊥) → get_or es (n - 1) 0 / max_nodes < max_nodes
 starts-inside {links} {es} {v} {n} sound y some = sound.starts (n - 1) (omega (arith, some, y.within))
 
 -- no edge is left
-pub spreading-done : (links : List ℕ) {es fs : List ℕ} {v able : ℕ} {ts ws ws₁ ts' ws' : List ℕ} → Spreading es fs v able ts ws₁ ts' ws' 0
-    → length ts ≡ maxNodes → length ws ≡ waitingWords → members able ≡ linksTo links (get_or ts v 0) → waits ws₁ ≡ without (waits ws) v
+pub spreading_done : (links : List ℕ) {es fs : List ℕ} {v able : ℕ} {ts ws ws₁ ts' ws' : List ℕ} → Spreading es fs v able ts ws₁ ts' ws' 0
+    → length ts ≡ max_nodes → length ws ≡ waiting_words → members able ≡ links_to links (get_or ts v 0) → waits ws₁ ≡ without (waits ws) v
     → Spread links es fs ts ws v ts' ws'
-spreading-done links {es} {fs} {v} {able} {ts} {ws} {ws₁} {ts'} {ws'} y long waits-long linked out =
+spreading_done links {es} {fs} {v} {able} {ts} {ws} {ws₁} {ts'} {ws'} y long waits_long linked out =
     record {
-      table-long = y.table-long ∙ sym long;
-      waits-long = y.waits-long ∙ sym waits-long;
+      table_long = y.table_long ∙ sym long;
+      waits_long = y.waits_long ∙ sym waits_long;
       words = λ u w.
           y.words u w
           ∙ ap₂ (λ (b c : Bool). marked ts u w || (b && (marked fs u w && c))) (called-all es v w) (ap (λ (X : Set). X u) linked);

@@ -1,8 +1,8 @@
 // The trial set: it is grown from its seeds, node by node, until no pair is missing.
 ghost use Rattle.std.specs.Prelude.{◌≡◌, true, ℕ, ◌<◌, length};
-ghost use Rattle.session.specs.Limits.{maxNodes};
+ghost use Rattle.session.specs.Limits.{max_nodes};
 ghost use Rattle.pair_tables.specs.Tables.{marked};
-ghost use Rattle.worklist.specs.Waiting.{waits, waitingWords};
+ghost use Rattle.worklist.specs.Waiting.{waits, waiting_words};
 ghost use Rattle.links.specs.Links.{Callers};
 ghost use Rattle.edge_indexes.specs.Indexes.{Indexed};
 ghost use Rattle.refinement.specs.Refining.{Sound};
@@ -13,7 +13,7 @@ use worklist::{lowest_in, put_in, take_out};
 
 // Tries more states at a node. It waits where it gains one, for its predecessors may gain by it.
 pub fn try_at(trials: &mut [u32], waiting: &mut [u32], node: usize, more: u32)
-    requires { (length trials.old ≡ maxNodes) × (length waiting.old ≡ waitingWords) × (node < maxNodes) }
+    requires { (length trials.old ≡ max_nodes) × (length waiting.old ≡ waiting_words) × (node < max_nodes) }
     ensures { TriedAt trials.old waiting.old node more trials.new waiting.new }
 {
     let word = trials[node];
@@ -36,8 +36,8 @@ pub fn spread(
     nexts: &[u32],
     v: usize,
 )
-    requires fresh_len { (length fresh.now ≡ maxNodes) × (length trials.old ≡ maxNodes) × (length waiting.old ≡ waitingWords) × (v < maxNodes) }
-    requires sound { Sound maxNodes links.now edges.now × Indexed edges.now heads.now nexts.now × Callers links.now callers.now }
+    requires fresh_len { (length fresh.now ≡ max_nodes) × (length trials.old ≡ max_nodes) × (length waiting.old ≡ waiting_words) × (v < max_nodes) }
+    requires sound { Sound max_nodes links.now edges.now × Indexed edges.now heads.now nexts.now × Callers links.now callers.now }
     ensures { Spread links.now edges.now fresh.now trials.old waiting.old v trials.new waiting.new }
 {
     take_out(waiting, v);
@@ -62,7 +62,7 @@ pub fn grow(
     heads: &[u32],
     nexts: &[u32],
 )
-    requires fresh_len { (length fresh.now ≡ maxNodes) × (length trials.old ≡ maxNodes) × (length waiting.old ≡ waitingWords) }
+    requires fresh_len { (length fresh.now ≡ max_nodes) × (length trials.old ≡ max_nodes) × (length waiting.old ≡ waiting_words) }
     requires sound { Sound nodes links.now edges.now × Indexed edges.now heads.now nexts.now }
     requires by_index { (u v : ℕ) → marked fresh.now u v ≡ true → (u < length links.now) × (v < nodes) }
     requires by_index_2 { (u v : ℕ) → marked trials.old u v ≡ true → (marked fresh.now u v ≡ true) × (waits waiting.old v ≡ true) }

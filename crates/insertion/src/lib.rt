@@ -1,11 +1,11 @@
 // An insertion: the pairs that an edge more may cause to stand are tried, and those that do are marked.
 ghost use Rattle.std.specs.Prelude.{◌≡◌, true, ℕ, ◌<◌, length, get_or};
 ghost use Rattle.bits.specs.Word.{members};
-ghost use Rattle.session.specs.Limits.{maxNodes};
+ghost use Rattle.session.specs.Limits.{max_nodes};
 ghost use Rattle.session.specs.Trigger.{nodes};
-ghost use Rattle.session.specs.Layout.{triggerOf, graph_of, inLayout, marksOf};
-ghost use Rattle.editing.specs.Steps.{Begun, seedsOf, Saved};
-ghost use Rattle.promises.specs.Rules.{insertion, graphRules, verdict};
+ghost use Rattle.session.specs.Layout.{trigger_of, graph_of, in_layout, marks_of};
+ghost use Rattle.editing.specs.Steps.{Begun, seeds_of, Saved};
+ghost use Rattle.promises.specs.Rules.{insertion, graph_rules, verdict};
 ghost use Rattle.promises.specs.Promises.{Done};
 
 use edge_indexes::index;
@@ -18,9 +18,9 @@ use trials::{alone, begin, begin_at, seeds_at, try_pairs};
 
 // The trial set is grown from the seeds in a table that is zero, by an index that serves its refinement too; how many pairs it has.
 pub fn try_grown(session: &[u32], start: u32, seeds: u32, table: &mut [u32]) -> u32
-    requires session_value { (inLayout session.now ≡ true) × (start < nodes (graph_of session.now)) × (length table.old ≡ maxNodes) × ((v : ℕ) → get_or table.old v 0 ≡ 0) }
-    requires by_index { (b : ℕ) × (members seeds ≡ seedsOf session.now start b) }
-    ensures { (b : ℕ) → members seeds ≡ seedsOf session.now start b → Begun session.now start b table.new result }
+    requires session_value { (in_layout session.now ≡ true) × (start < nodes (graph_of session.now)) × (length table.old ≡ max_nodes) × ((v : ℕ) → get_or table.old v 0 ≡ 0) }
+    requires by_index { (b : ℕ) × (members seeds ≡ seeds_of session.now start b) }
+    ensures { (b : ℕ) → members seeds ≡ seeds_of session.now start b → Begun session.now start b table.new result }
 {
     let states = session[0];
     let nodes = session[1] as usize;
@@ -35,9 +35,9 @@ pub fn try_grown(session: &[u32], start: u32, seeds: u32, table: &mut [u32]) -> 
 
 // The same; where the seeds are the whole trial set, no index is built.
 pub fn try_out(session: &[u32], start: u32, seeds: u32, table: &mut [u32]) -> u32
-    requires session_value { (inLayout session.now ≡ true) × (start < nodes (graph_of session.now)) × (length table.old ≡ maxNodes) × ((v : ℕ) → get_or table.old v 0 ≡ 0) }
-    requires by_index { (b : ℕ) × (members seeds ≡ seedsOf session.now start b) }
-    ensures { (b : ℕ) → members seeds ≡ seedsOf session.now start b → Begun session.now start b table.new result }
+    requires session_value { (in_layout session.now ≡ true) × (start < nodes (graph_of session.now)) × (length table.old ≡ max_nodes) × ((v : ℕ) → get_or table.old v 0 ≡ 0) }
+    requires by_index { (b : ℕ) × (members seeds ≡ seeds_of session.now start b) }
+    ensures { (b : ℕ) → members seeds ≡ seeds_of session.now start b → Begun session.now start b table.new result }
 {
     let able = linking(links_of(session), seeds);
     if !alone(session, start, able) {
@@ -50,8 +50,8 @@ pub fn try_out(session: &[u32], start: u32, seeds: u32, table: &mut [u32]) -> u3
 
 // Inserts an edge that breaks no rule, and corrects the marks. Before they change, they are saved.
 pub fn insert_edit(session: &mut [u32], start: u32, end: u32, before: &mut [u32]) -> Effect
-    requires { (inLayout session.old ≡ true) × (verdict (graphRules insertion (graph_of session.old) start end) ≡ 0) × (length before.old ≡ maxNodes) }
-    ensures { Done insertion (triggerOf session.old) (graph_of session.old) (marksOf session.old) (marksOf session.new) start end result.trials session.old session.new × Saved session.old session.new before.new result.calm }
+    requires { (in_layout session.old ≡ true) × (verdict (graph_rules insertion (graph_of session.old) start end) ≡ 0) × (length before.old ≡ max_nodes) }
+    ensures { Done insertion (trigger_of session.old) (graph_of session.old) (marks_of session.old) (marks_of session.new) start end result.trials session.old session.new × Saved session.old session.new before.new result.calm }
 {
     insert_edge(session, start, end);
     let seeds = seeds_at(session, start, end);

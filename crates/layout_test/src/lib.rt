@@ -1,17 +1,17 @@
 // The test whether a memory is in layout: trigger, graph and marks.
 ghost use Rattle.std.specs.Prelude.{◌≡◌, true, ◌^◌, ◌≤◌, length};
-ghost use Rattle.session.specs.Limits.{fixedSize, masks_at, samplesAt, maxEdges, maxNodes, maxStates, wordBits};
-ghost use Rattle.session.specs.Layout.{part, below, inLayout};
-ghost use Rattle.session.specs.Tests.{triggerTest, graphTest, marksTest};
+ghost use Rattle.session.specs.Limits.{fixed_size, masks_at, samples_at, max_edges, max_nodes, max_states, word_bits};
+ghost use Rattle.session.specs.Layout.{part, below, in_layout};
+ghost use Rattle.session.specs.Tests.{trigger_test, graph_test, marks_test};
 
 use section_tests::{all_admitted, all_ascend, all_named, all_zero, section_fits, unions_fit};
 
 // Whether the marks fit. The union of the marks serves both tests.
 pub fn marks_fit(session: &[u32], states: usize, nodes: usize) -> bool
-    requires fixed_size_in_bounds { (fixedSize ≤ length session.now) × (states ≤ maxStates) × (nodes ≤ maxNodes) }
-    requires states_value { below (2 ^ wordBits) (part session.now masks_at states) ≡ true }
-    requires nodes_value { below (2 ^ wordBits) (part session.now samplesAt nodes) ≡ true }
-    ensures { result ≡ marksTest session.now states nodes }
+    requires fixed_size_in_bounds { (fixed_size ≤ length session.now) × (states ≤ max_states) × (nodes ≤ max_nodes) }
+    requires states_value { below (2 ^ word_bits) (part session.now masks_at states) ≡ true }
+    requires nodes_value { below (2 ^ word_bits) (part session.now samples_at nodes) ≡ true }
+    ensures { result ≡ marks_test session.now states nodes }
 {
     let masks_end = session::MASKS_AT + states;
     let values_end = session::VALUES_AT + states;
@@ -32,8 +32,8 @@ pub fn marks_fit(session: &[u32], states: usize, nodes: usize) -> bool
 
 // Whether the sections of the trigger fit, and its inverted states.
 pub fn trigger_fits(session: &[u32], states: usize) -> bool
-    requires { (fixedSize ≤ length session.now) × (states ≤ maxStates) }
-    ensures { result ≡ triggerTest session.now states }
+    requires { (fixed_size ≤ length session.now) × (states ≤ max_states) }
+    ensures { result ≡ trigger_test session.now states }
 {
     section_fits(
         &session[session::MASKS_AT..session::VALUES_AT],
@@ -52,8 +52,8 @@ pub fn trigger_fits(session: &[u32], states: usize) -> bool
 
 // Whether the sections of the graph fit.
 pub fn graph_fits(session: &[u32], nodes: usize, edges: usize) -> bool
-    requires { (fixedSize ≤ length session.now) × (nodes ≤ maxNodes) × (edges ≤ maxEdges) }
-    ensures { result ≡ graphTest session.now nodes edges }
+    requires { (fixed_size ≤ length session.now) × (nodes ≤ max_nodes) × (edges ≤ max_edges) }
+    ensures { result ≡ graph_test session.now nodes edges }
 {
     let end = session::EDGES_AT + edges;
     section_fits(
@@ -67,7 +67,7 @@ pub fn graph_fits(session: &[u32], nodes: usize, edges: usize) -> bool
 
 // Whether a memory is in layout.
 pub fn in_layout(session: &[u32]) -> bool
-    ensures { result ≡ inLayout session.now }
+    ensures { result ≡ in_layout session.now }
 {
     if session.len() < session::FIXED_SIZE {
         return false;

@@ -1,14 +1,14 @@
 // Sets of states by their links: those that a set is linked to, those with a link to a set, and those that are reached.
 ghost use Rattle.std.specs.Prelude.{◌≡◌, ℕ, ◌≤◌, ◌<◌, length, get_or, ◌&&◌, ◌||◌, eqb};
 ghost use Rattle.simulation.specs.Sets.{minus};
-ghost use Rattle.bits.specs.Word.{members, setBits};
-ghost use Rattle.session.specs.Reached.{reached, linkedBy};
-ghost use Rattle.links.specs.Links.{linkedFrom, linksTo, Callers};
+ghost use Rattle.bits.specs.Word.{members, set_bits};
+ghost use Rattle.session.specs.Reached.{reached, linked_by};
+ghost use Rattle.links.specs.Links.{linked_from, links_to, Callers};
 
 // The states to which a state of the word has a link.
 pub fn linked(links: &[u32], word: u32) -> u32
-    requires { length links.now ≤ setBits }
-    ensures { members result ≡ linkedFrom links.now word }
+    requires { length links.now ≤ set_bits }
+    ensures { members result ≡ linked_from links.now word }
 {
     let mut all = 0;
     let mut rest = word & bits::below(links.len() as u32);
@@ -22,8 +22,8 @@ pub fn linked(links: &[u32], word: u32) -> u32
 
 // The states with a link to a state of the word.
 pub fn linking(links: &[u32], word: u32) -> u32
-    requires { length links.now ≤ setBits }
-    ensures { members result ≡ linksTo links.now word }
+    requires { length links.now ≤ set_bits }
+    ensures { members result ≡ links_to links.now word }
 {
     let mut all = 0;
     let mut u = 0;
@@ -38,8 +38,8 @@ pub fn linking(links: &[u32], word: u32) -> u32
 
 // The states of the word without a link to one of the others. Only its members are gone through.
 pub fn unlinked(links: &[u32], word: u32, others: u32) -> u32
-    requires { length links.now ≤ setBits }
-    ensures { members result ≡ minus (members word) (linksTo links.now others) }
+    requires { length links.now ≤ set_bits }
+    ensures { members result ≡ minus (members word) (links_to links.now others) }
 {
     let mut left = word;
     let mut rest = word & bits::below(links.len() as u32);
@@ -56,8 +56,8 @@ pub fn unlinked(links: &[u32], word: u32, others: u32) -> u32
 // The states that a chain of links reaches from State One. Each is gone through once; `left` has those that no chain has met, `rest` those whose links
 // are still to be followed.
 pub fn reached(links: &[u32]) -> u32
-    requires { (0 < length links.now) × (length links.now ≤ setBits) }
-    ensures { members result ≡ reached (linkedBy links.now) }
+    requires { (0 < length links.now) × (length links.now ≤ set_bits) }
+    ensures { members result ≡ reached (linked_by links.now) }
 {
     let all = bits::below(links.len() as u32);
     let mut left = bits::difference(all, 1);
@@ -76,7 +76,7 @@ pub const CALLERS: usize = bits::SET_BITS;
 
 // Puts a state into the words of its targets.
 pub fn call_for(callers: &mut [u32], targets: u32, u: u32)
-    requires { (length callers.old ≡ setBits) × (u < setBits) }
+    requires { (length callers.old ≡ set_bits) × (u < set_bits) }
     ensures { (x o : ℕ) → members (get_or callers.new o 0) x ≡ (members (get_or callers.old o 0) x || (eqb x u && members targets o)) }
 {
     let mut rest = targets;
@@ -89,7 +89,7 @@ pub fn call_for(callers: &mut [u32], targets: u32, u: u32)
 
 // Fills a table that is zero with the callers of each state.
 pub fn index_callers(links: &[u32], callers: &mut [u32])
-    requires { (length links.now ≤ setBits) × (length callers.old ≡ setBits) × ((o : ℕ) → get_or callers.old o 0 ≡ 0) }
+    requires { (length links.now ≤ set_bits) × (length callers.old ≡ set_bits) × ((o : ℕ) → get_or callers.old o 0 ≡ 0) }
     ensures { Callers links.now callers.new }
 {
     let mut u = 0;
@@ -101,8 +101,8 @@ pub fn index_callers(links: &[u32], callers: &mut [u32])
 
 // The states with a link to a state of the word: of one state by the table; of several, or where there is no table, by one pass over all links.
 pub fn calling(links: &[u32], callers: &[u32], word: u32) -> u32
-    requires { (length links.now ≤ setBits) × ((length callers.now ≡ 0 → ⊥) → Callers links.now callers.now) }
-    ensures { members result ≡ linksTo links.now word }
+    requires { (length links.now ≤ set_bits) × ((length callers.now ≡ 0 → ⊥) → Callers links.now callers.now) }
+    ensures { members result ≡ links_to links.now word }
 {
     if callers.len() == 0 {
         return linking(links, word);

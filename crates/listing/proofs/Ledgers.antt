@@ -14,9 +14,9 @@ use Rattle.simulation.proofs.Sets.{split, clash, refuted}
 use Rattle.simulation.proofs.Edges.{edge-ends}
 use Rattle.simulation.proofs.Pattern.{pair-state, pair-node, pair_inside}
 use Rattle.session.specs.Trigger.{Trigger, Graph, Marks, states, nodes, pattern}
-use Rattle.listing.specs.Changes.{size_of, signed, change, joinTo, changes, nodeSpan}
+use Rattle.listing.specs.Changes.{size_of, signed, change, join_to, changes, node_span}
 use Rattle.listing.specs.Ledger.{equal, times, ledger, standing, entries, Alternate}
-use Rattle.listing.proofs.Lists.{change-size, join-none}
+use Rattle.listing.proofs.Lists.{change-size, join_none}
 
 -- ---- lists one after the other
 
@@ -71,33 +71,33 @@ entries-same true false n = rw (eq-eqb (nat_abs (neg_ℤ (pos n))) n (change-siz
 entries-same true true n = refl
 entries-same false false n = refl
 
-entries-other : (b c : Bool) (n m : ℕ) → (m ≡ n → ⊥) → entries n (change b c m) ≡ []
+entries_other : (b c : Bool) (n m : ℕ) → (m ≡ n → ⊥) → entries n (change b c m) ≡ []
 unfolding entries
-entries-other false true n m no_same = rw (ne_eqb m n no_same)
-entries-other true false n m no_same = rw (ne_eqb (nat_abs (neg_ℤ (pos m))) n (λ e. no_same (sym (change-size m) ∙ e)))
-entries-other true true n m no_same = refl
-entries-other false false n m no_same = refl
+entries_other false true n m no_same = rw (ne_eqb m n no_same)
+entries_other true false n m no_same = rw (ne_eqb (nat_abs (neg_ℤ (pos m))) n (λ e. no_same (sym (change-size m) ∙ e)))
+entries_other true true n m no_same = refl
+entries_other false false n m no_same = refl
 
-entries-join : (n k : ℕ) (f : ℕ → List ℤ) → entries n (joinTo k f) ≡ joinTo k (λ p. entries n (f p))
-unfolding joinTo entries
-entries-join n zero f = refl
-entries-join n (suc k) f = entries-append n (joinTo k f) (f k) ∙ ap (λ (l : List ℤ). l ++ entries n (f k)) (entries-join n k f)
+entries_join : (n k : ℕ) (f : ℕ → List ℤ) → entries n (join_to k f) ≡ join_to k (λ p. entries n (f p))
+unfolding join_to entries
+entries_join n zero f = refl
+entries_join n (suc k) f = entries-append n (join_to k f) (f k) ∙ ap (λ (l : List ℤ). l ++ entries n (f k)) (entries_join n k f)
 
 -- lists of which all but one are empty
-join-only : (f : ℕ → List ℤ) (q : ℕ) → ((p : ℕ) → (p ≡ q → ⊥) → f p ≡ []) → (k : ℕ) → q < k → joinTo k f ≡ f q
-unfolding joinTo
-join-only f q h zero l = absurd (omega arith)
-join-only f q h (suc k) l =
+join_only : (f : ℕ → List ℤ) (q : ℕ) → ((p : ℕ) → (p ≡ q → ⊥) → f p ≡ []) → (k : ℕ) → q < k → join_to k f ≡ f q
+unfolding join_to
+join_only f q h zero l = absurd (omega arith)
+join_only f q h (suc k) l =
     ⊎_elim
     (λ (e : suc q ≡ suc k).
     let same : q ≡ k = omega arith in
-    rw (sym same) (ap (λ (x : List ℤ). x ++ f q) (join-none f q (λ p m. h p (λ z. absurd (omega arith))))))
+    rw (sym same) (ap (λ (x : List ℤ). x ++ f q) (join_none f q (λ p m. h p (λ z. absurd (omega arith))))))
     (λ (e : suc q < suc k).
-    rw (h k (λ z. absurd (omega arith))) (append-nil (joinTo k f) ∙ join-only f q h k (omega arith)))
+    rw (h k (λ z. absurd (omega arith))) (append-nil (join_to k f) ∙ join_only f q h k (omega arith)))
     (eq-or-lt_of_le l)
 
 -- "each once": of a pair the list has its change and nothing else
-module _ (t : Trigger) (g : Graph) (before after : Marks) (few : states t ≤ nodeSpan) (u v : ℕ) (l : u < states t) (k : v < nodes g) where
+module _ (t : Trigger) (g : Graph) (before after : Marks) (few : states t ≤ node_span) (u v : ℕ) (l : u < states t) (k : v < nodes g) where
   abbrev n : ℕ
   n = states t
 
@@ -111,15 +111,15 @@ module _ (t : Trigger) (g : Graph) (before after : Marks) (few : states t ≤ no
   apart : (p : ℕ) → (p ≡ v * states t + u → ⊥) → size_of (p % states t) (p / states t) ≡ size_of u v → ⊥
   apart p other e =
       let some : 0 < n = omega arith in
-      let r = edge-ends nodeSpan (p / n) (p % n) v u (omega (arith, mod-lt p some, few)) (omega (arith, l, few)) (omega (arith, e)) in
+      let r = edge-ends node_span (p / n) (p % n) v u (omega (arith, mod-lt p some, few)) (omega (arith, l, few)) (omega (arith, e)) in
       other (sym (div-add-mod' p n) ∙ ap₂ (λ (a b : ℕ). a * n + b) r.0 r.1)
 
   pub entries-changes : entries (size_of u v) (changes t g before after) ≡ change (before u v) (after u v) (size_of u v)
   unfolding changes
   entries-changes =
-      entries-join size (nodes g * n) one
-      ∙ join-only (λ p. entries size (one p)) (v * n + u)
-      (λ p other. entries-other (before (p % n) (p / n)) (after (p % n) (p / n)) size (size_of (p % n) (p / n)) (apart p other))
+      entries_join size (nodes g * n) one
+      ∙ join_only (λ p. entries size (one p)) (v * n + u)
+      (λ p other. entries_other (before (p % n) (p / n)) (after (p % n) (p / n)) size (size_of (p % n) (p / n)) (apart p other))
       (nodes g * n) (pair_inside (pattern t g) u v l k)
       ∙ rw (pair-state (pattern t g) u v l, pair-node (pattern t g) u v l) (entries-same (before u v) (after u v) size)
 
@@ -143,27 +143,27 @@ change-sums true false (suc n) some = rw (eq-eqb n n refl)
 change-sums true true (suc n) some = refl
 change-sums false false (suc n) some = refl
 
-change-alternates : (b c : Bool) (n : ℕ) (zs : List ℤ) → Alternate c n zs → Alternate b n (change b c n ++ zs)
-change-alternates false true n zs h = (refl, h)
-change-alternates true false n zs h = (refl, h)
-change-alternates true true n zs h = h
-change-alternates false false n zs h = h
+change_alternates : (b c : Bool) (n : ℕ) (zs : List ℤ) → Alternate c n zs → Alternate b n (change b c n ++ zs)
+change_alternates false true n zs h = (refl, h)
+change_alternates true false n zs h = (refl, h)
+change_alternates true true n zs h = h
+change_alternates false false n zs h = h
 
 -- a list whose only entry of this size is the change of the pair, and lists after it
-tells-then : (n : ℕ) (b c d : Bool) (list more : List ℤ) → 0 < n → entries n list ≡ change b c n → Tells n c d more → Tells n b d (list ++ more)
-tells-then n b c d list more some e w = record {
+tells_then : (n : ℕ) (b c d : Bool) (list more : List ℤ) → 0 < n → entries n list ≡ change b c n → Tells n c d more → Tells n b d (list ++ more)
+tells_then n b c d list more some e w = record {
   sums =
       rw (times-append (signed true n) list more, times-append (signed false n) list more, times-entries true n list, times-entries false n list, e)
       (omega (arith, change-sums b c n some, w.sums));
-  alternate = rw (entries-append n list more, e) (change-alternates b c n (entries n more) w.alternate);
+  alternate = rw (entries-append n list more, e) (change_alternates b c n (entries n more) w.alternate);
 }
 
 -- the change list of a call, and the lists of those after it
-pub tells-changes : (t : Trigger) (g : Graph) (before after : Marks) → states t ≤ nodeSpan → (u v : ℕ) → u < states t → v < nodes g
+pub tells-changes : (t : Trigger) (g : Graph) (before after : Marks) → states t ≤ node_span → (u v : ℕ) → u < states t → v < nodes g
     → (last : Bool) (more : List ℤ) → Tells (size_of u v) (after u v) last more
     → Tells (size_of u v) (before u v) last (changes t g before after ++ more)
 tells-changes t g before after few u v l k last more w =
-    tells-then (size_of u v) (before u v) (after u v) last (changes t g before after) more (omega arith) (entries-changes t g before after few u v l k) w
+    tells_then (size_of u v) (before u v) (after u v) last (changes t g before after) more (omega arith) (entries-changes t g before after few u v l k) w
 
 -- ---- as integers
 

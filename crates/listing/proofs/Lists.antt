@@ -14,7 +14,7 @@ use Rattle.simulation.proofs.Ordered.{Rising, elem-take, rising-append, elem-app
 use Rattle.simulation.proofs.Sets.{clash, or-take}
 use Rattle.simulation.proofs.Pattern.{pair-state, pair-node, pair_inside, state-inside, node-inside}
 use Rattle.session.specs.Trigger.{Trigger, Graph, Marks, states, nodes, pattern}
-use Rattle.listing.specs.Changes.{size_of, change, joinTo, changes, nodeSpan}
+use Rattle.listing.specs.Changes.{size_of, change, join_to, changes, node_span}
 
 -- ---- one change
 
@@ -28,20 +28,20 @@ change-take true false n z h = inr (refl, refl, Memᴰ.eq_of_singleton h)
 change-take true true n z h = absurd (Memᴰ.not-nil h)
 change-take false false n z h = absurd (Memᴰ.not-nil h)
 
-change-make : (b c : Bool) (n : ℕ) (z : ℤ) → ChangeIs b c n z → Memᴰ z (change b c n)
-change-make b c n z (inl w) = rw (w.0, w.1) (Memᴰ.head w.2)
-change-make b c n z (inr w) = rw (w.0, w.1) (Memᴰ.head w.2)
+change_make : (b c : Bool) (n : ℕ) (z : ℤ) → ChangeIs b c n z → Memᴰ z (change b c n)
+change_make b c n z (inl w) = rw (w.0, w.1) (Memᴰ.head w.2)
+change_make b c n z (inr w) = rw (w.0, w.1) (Memᴰ.head w.2)
 
 pub change-size : (n : ℕ) → nat_abs (neg_ℤ (pos n)) ≡ n
 change-size zero = refl
 change-size (suc n) = refl
 
-change-sizes : (b c : Bool) (n y : ℕ) → elem y (map nat_abs (change b c n)) ≡ true → y ≡ n
+change_sizes : (b c : Bool) (n y : ℕ) → elem y (map nat_abs (change b c n)) ≡ true → y ≡ n
 unfolding elem
-change-sizes false true n y h = ⊎_elim (λ e. e) (λ e. clash e refl) (elem-take y n [] h)
-change-sizes true false n y h = ⊎_elim (λ e. e ∙ change-size n) (λ e. clash e refl) (elem-take y (nat_abs (neg_ℤ (pos n))) [] h)
-change-sizes true true n y h = clash h refl
-change-sizes false false n y h = clash h refl
+change_sizes false true n y h = ⊎_elim (λ e. e) (λ e. clash e refl) (elem-take y n [] h)
+change_sizes true false n y h = ⊎_elim (λ e. e ∙ change-size n) (λ e. clash e refl) (elem-take y (nat_abs (neg_ℤ (pos n))) [] h)
+change_sizes true true n y h = clash h refl
+change_sizes false false n y h = clash h refl
 
 change-rising : (b c : Bool) (n : ℕ) → Rising (map nat_abs (change b c n))
 unfolding elem
@@ -63,58 +63,58 @@ change-none false n = refl
 -- ---- lists joined one after the other
 
 module _ (f : ℕ → List ℤ) where
-  join-take : (n : ℕ) (z : ℤ) → Memᴰ z (joinTo n f) → (p : ℕ) × (p < n) × Memᴰ z (f p)
-  unfolding joinTo
-  join-take zero z h = absurd (Memᴰ.not-nil h)
-  join-take (suc n) z h =
+  join_take : (n : ℕ) (z : ℤ) → Memᴰ z (join_to n f) → (p : ℕ) × (p < n) × Memᴰ z (f p)
+  unfolding join_to
+  join_take zero z h = absurd (Memᴰ.not-nil h)
+  join_take (suc n) z h =
       ⊎_elim
-      (λ e. let r = join-take n z e in (r.0, omega arith, r.2))
+      (λ e. let r = join_take n z e in (r.0, omega arith, r.2))
       (λ e. (n, omega arith, e))
-      (Memᴰ.append_cases (joinTo n f) h)
+      (Memᴰ.append_cases (join_to n f) h)
 
-  join-make : (n : ℕ) (z : ℤ) (p : ℕ) → p < n → Memᴰ z (f p) → Memᴰ z (joinTo n f)
-  unfolding joinTo
-  join-make zero z p l h = absurd (omega arith)
-  join-make (suc n) z p l h =
+  join_make : (n : ℕ) (z : ℤ) (p : ℕ) → p < n → Memᴰ z (f p) → Memᴰ z (join_to n f)
+  unfolding join_to
+  join_make zero z p l h = absurd (omega arith)
+  join_make (suc n) z p l h =
       ⊎_elim
-      (λ (e : suc p ≡ suc n). let q : p ≡ n = omega arith in Memᴰ.append_right (joinTo n f) (subst (λ x. Memᴰ z (f x)) q h))
-      (λ (e : suc p < suc n). Memᴰ.append_left (f n) (join-make n z p (omega arith) h))
+      (λ (e : suc p ≡ suc n). let q : p ≡ n = omega arith in Memᴰ.append_right (join_to n f) (subst (λ x. Memᴰ z (f x)) q h))
+      (λ (e : suc p < suc n). Memᴰ.append_left (f n) (join_make n z p (omega arith) h))
       (eq-or-lt_of_le l)
 
-  join-sizes : (size : ℕ → ℕ) → ((p y : ℕ) → elem y (map nat_abs (f p)) ≡ true → y ≡ size p) → (n y : ℕ)
-      → elem y (map nat_abs (joinTo n f)) ≡ true → (p : ℕ) × (p < n) × (y ≡ size p)
-  unfolding joinTo elem
-  join-sizes size h zero y e = clash e refl
-  join-sizes size h (suc n) y e =
+  join_sizes : (size : ℕ → ℕ) → ((p y : ℕ) → elem y (map nat_abs (f p)) ≡ true → y ≡ size p) → (n y : ℕ)
+      → elem y (map nat_abs (join_to n f)) ≡ true → (p : ℕ) × (p < n) × (y ≡ size p)
+  unfolding join_to elem
+  join_sizes size h zero y e = clash e refl
+  join_sizes size h (suc n) y e =
       ⊎_elim
-      (λ k. let r = join-sizes size h n y k in (r.0, omega arith, r.2))
+      (λ k. let r = join_sizes size h n y k in (r.0, omega arith, r.2))
       (λ k. (n, omega arith, h n y k))
-      (or-take (elem y (map nat_abs (joinTo n f))) (elem y (map nat_abs (f n)))
-      (sym (elem-append y (map nat_abs (joinTo n f)) (map nat_abs (f n))) ∙ (rw (map-append nat_abs (joinTo n f) (f n)) at e)))
+      (or-take (elem y (map nat_abs (join_to n f))) (elem y (map nat_abs (f n)))
+      (sym (elem-append y (map nat_abs (join_to n f)) (map nat_abs (f n))) ∙ (rw (map-append nat_abs (join_to n f) (f n)) at e)))
 
-  join-rising : (size : ℕ → ℕ) → ((p y : ℕ) → elem y (map nat_abs (f p)) ≡ true → y ≡ size p) → ((p : ℕ) → Rising (map nat_abs (f p)))
-      → (n : ℕ) → ((p q : ℕ) → p < q → q < n → size p < size q) → Rising (map nat_abs (joinTo n f))
-  unfolding joinTo
-  join-rising size h each zero mono = tt
-  join-rising size h each (suc n) mono =
-      rw (map-append nat_abs (joinTo n f) (f n))
-      (rising-append (map nat_abs (joinTo n f)) (map nat_abs (f n)) (join-rising size h each n (λ p q l k. mono p q l (omega arith))) (each n)
-      (λ x y i j. let r = join-sizes size h n x i in rw (r.2, h n y j) (mono r.0 n r.1 (omega arith))))
+  join_rising : (size : ℕ → ℕ) → ((p y : ℕ) → elem y (map nat_abs (f p)) ≡ true → y ≡ size p) → ((p : ℕ) → Rising (map nat_abs (f p)))
+      → (n : ℕ) → ((p q : ℕ) → p < q → q < n → size p < size q) → Rising (map nat_abs (join_to n f))
+  unfolding join_to
+  join_rising size h each zero mono = tt
+  join_rising size h each (suc n) mono =
+      rw (map-append nat_abs (join_to n f) (f n))
+      (rising-append (map nat_abs (join_to n f)) (map nat_abs (f n)) (join_rising size h each n (λ p q l k. mono p q l (omega arith))) (each n)
+      (λ x y i j. let r = join_sizes size h n x i in rw (r.2, h n y j) (mono r.0 n r.1 (omega arith))))
 
-  pub join-short : ((p : ℕ) → length (f p) ≤ 1) → (n : ℕ) → length (joinTo n f) ≤ n
-  unfolding joinTo
-  join-short h zero = omega arith
-  join-short h (suc n) = omega (arith, length-append (joinTo n f) (f n), join-short h n, h n)
+  pub join_short : ((p : ℕ) → length (f p) ≤ 1) → (n : ℕ) → length (join_to n f) ≤ n
+  unfolding join_to
+  join_short h zero = omega arith
+  join_short h (suc n) = omega (arith, length-append (join_to n f) (f n), join_short h n, h n)
 
-  pub join-none : (n : ℕ) → ((p : ℕ) → p < n → f p ≡ []) → joinTo n f ≡ []
-  unfolding joinTo
-  join-none zero h = refl
-  join-none (suc n) h = rw (h n (omega arith), join-none n (λ p l. h p (omega arith)))
+  pub join_none : (n : ℕ) → ((p : ℕ) → p < n → f p ≡ []) → join_to n f ≡ []
+  unfolding join_to
+  join_none zero h = refl
+  join_none (suc n) h = rw (h n (omega arith), join_none n (λ p l. h p (omega arith)))
 
 -- ---- the change list of two sets of marks
 
 -- sizes ascend as pairs do
-size_mono : (n p q : ℕ) → 0 < n → n ≤ nodeSpan → p < q → p / n * nodeSpan + (p % n + 1) < q / n * nodeSpan + (q % n + 1)
+size_mono : (n p q : ℕ) → 0 < n → n ≤ node_span → p < q → p / n * node_span + (p % n + 1) < q / n * node_span + (q % n + 1)
 size_mono n p q some few l =
     let a = mod-lt p some in
     let b = mod-lt q some in
@@ -145,35 +145,35 @@ module _ (t : Trigger) (g : Graph) (before after : Marks) where
   one p = change (was p) (now p) (size p)
 
   -- "the changes for exactly the pairs" whose marks differ
-  pub changes-exactly : (z : ℤ) → Memᴰ z (changes t g before after)
+  pub changes_exactly : (z : ℤ) → Memᴰ z (changes t g before after)
       ↔ ((u : ℕ) × (v : ℕ) × (u < states t) × (v < nodes g) × ChangeIs (before u v) (after u v) (size_of u v) z)
   unfolding changes
-  changes-exactly z = (
+  changes_exactly z = (
     λ h.
-        let r = join-take one (nodes g * n) z h in
+        let r = join_take one (nodes g * n) z h in
         let p = r.0 in
         (p % n, p / n, state-inside (pattern t g) p r.1, node-inside (pattern t g) p r.1, change-take (was p) (now p) (size p) z r.2),
     λ w.
         let u = w.0 in
         let v = w.1 in
-        join-make one (nodes g * n) z (v * n + u) (pair_inside (pattern t g) u v w.2 w.3)
-        (rw (pair-state (pattern t g) u v w.2, pair-node (pattern t g) u v w.2) (change-make (before u v) (after u v) (size_of u v) z w.4)),
+        join_make one (nodes g * n) z (v * n + u) (pair_inside (pattern t g) u v w.2 w.3)
+        (rw (pair-state (pattern t g) u v w.2, pair-node (pattern t g) u v w.2) (change_make (before u v) (after u v) (size_of u v) z w.4)),
   )
 
   -- "ascends by size", strictly, so each pair once
-  pub changes-ascend : 0 < states t → states t ≤ nodeSpan → Rising (map nat_abs (changes t g before after))
+  pub changes-ascend : 0 < states t → states t ≤ node_span → Rising (map nat_abs (changes t g before after))
   unfolding changes
   changes-ascend some few =
-      join-rising one size (λ p y h. change-sizes (was p) (now p) (size p) y h) (λ p. change-rising (was p) (now p) (size p)) (nodes g * n)
+      join_rising one size (λ p y h. change_sizes (was p) (now p) (size p) y h) (λ p. change-rising (was p) (now p) (size p)) (nodes g * n)
       (λ p q l k. size_mono n p q some few l)
 
   pub changes-short : length (changes t g before after) ≤ nodes g * states t
   unfolding changes
-  changes-short = join-short one (λ p. change-short (was p) (now p) (size p)) (nodes g * n)
+  changes-short = join_short one (λ p. change-short (was p) (now p) (size p)) (nodes g * n)
 
 -- where no mark differs there is no change
 pub changes-none : (t : Trigger) (g : Graph) (m : Marks) → changes t g m m ≡ []
 unfolding changes
 changes-none t g m =
-    join-none (λ p. change (m (p % states t) (p / states t)) (m (p % states t) (p / states t)) (size_of (p % states t) (p / states t))) (nodes g * states t)
+    join_none (λ p. change (m (p % states t) (p / states t)) (m (p % states t) (p / states t)) (size_of (p % states t) (p / states t))) (nodes g * states t)
     (λ p l. change-none (m (p % states t) (p / states t)) (size_of (p % states t) (p / states t)))

@@ -3,11 +3,11 @@ use Rattle.std.specs.Prelude.{ℕ, zero, suc, ◌+◌, ◌*◌, ◌/◌, ◌%◌
 use Rattle.session.specs.Trigger.{Trigger, Graph, Marks, states, nodes}
 
 -- "of size node times 64 plus state": the state u of index u has the number u + 1, so no change is zero
-abbrev pub nodeSpan : ℕ
-nodeSpan = 64
+abbrev pub node_span : ℕ
+node_span = 64
 
 abbrev pub size_of : ℕ → ℕ → ℕ
-size_of u v = v * nodeSpan + (u + 1)
+size_of u v = v * node_span + (u + 1)
 
 -- "positive for a pair that began to stand, negative for one that ceased"
 abbrev pub signed : Bool → ℕ → ℤ
@@ -22,12 +22,12 @@ change true true n = []
 change false false n = []
 
 -- f 0, then f 1, .. , n lists in all
-unfoldable pub joinTo : ℕ → (ℕ → List ℤ) → List ℤ
-joinTo zero f = []
-joinTo (suc n) f = joinTo n f ++ f n
+unfoldable pub join_to : ℕ → (ℕ → List ℤ) → List ℤ
+join_to zero f = []
+join_to (suc n) f = join_to n f ++ f n
 
 -- "The list ascends by size": the pairs by node, then by state
 unfoldable pub changes : Trigger → Graph → Marks → Marks → List ℤ
 changes t g before after =
-    joinTo (nodes g * states t)
+    join_to (nodes g * states t)
     (λ p. let u = p % states t in let v = p / states t in change (before u v) (after u v) (size_of u v))

@@ -1,15 +1,15 @@
 // The rules of a load, in their sequence.
 ghost use Rattle.std.specs.Prelude.{◌≡◌, not, ◌&&◌, ◌||◌, suc, ◌-◌, ◌^◌, ◌≤◌, ltb, eqb, length, get_or};
 ghost use Rattle.simulation.specs.Sets.{all_below};
-ghost use Rattle.session.specs.Limits.{maxEdges, maxStates};
+ghost use Rattle.session.specs.Limits.{max_edges, max_states};
 ghost use Rattle.session.specs.Layout.{below};
-ghost use Rattle.promises.specs.Rules.{given, precedes, loadRules, verdict};
+ghost use Rattle.promises.specs.Rules.{given, precedes, load_rules, verdict};
 
 use reports::too_short;
 
 // Rule 4: no state, too many, or one given in part, such as an inverted state that has no mask.
 pub fn states_wrong(masks: usize, values: usize, links: usize, inverted: u32) -> bool
-    ensures { result ≡ ((eqb masks 0 || ltb maxStates masks) || ((not (eqb values masks) || not (eqb links masks)) || not (ltb inverted (2 ^ masks)))) }
+    ensures { result ≡ ((eqb masks 0 || ltb max_states masks) || ((not (eqb values masks) || not (eqb links masks)) || not (ltb inverted (2 ^ masks)))) }
 {
     (masks == 0 || session::MAX_STATES < masks)
         || ((values != masks || links != masks) || !bits::inside(inverted, masks as u32))
@@ -17,7 +17,7 @@ pub fn states_wrong(masks: usize, values: usize, links: usize, inverted: u32) ->
 
 // Rule 5: a link goes to a state above the number of states.
 pub fn links_wrong(links: &[u32], states: usize) -> bool
-    requires { states ≤ maxStates }
+    requires { states ≤ max_states }
     ensures { result ≡ not (below (2 ^ states) links.now) }
 {
     !bits::subset(bits::gathered(links), bits::below(states as u32))
@@ -25,7 +25,7 @@ pub fn links_wrong(links: &[u32], states: usize) -> bool
 
 // Rule 7: too many edges, or one given in part.
 pub fn edges_wrong(starts: usize, ends: usize) -> bool
-    ensures { result ≡ (ltb maxEdges starts || not (eqb ends starts)) }
+    ensures { result ≡ (ltb max_edges starts || not (eqb ends starts)) }
 {
     session::MAX_EDGES < starts || ends != starts
 }
@@ -73,7 +73,7 @@ pub fn load_rule(
     starts: &[u32],
     ends: &[u32],
 ) -> u8
-    ensures { result ≡ verdict (loadRules memory room (given masks.now values.now links.now inverted samples.now starts.now ends.now)) }
+    ensures { result ≡ verdict (load_rules memory room (given masks.now values.now links.now inverted samples.now starts.now ends.now)) }
 {
     if too_short(memory, room) {
         return 3;

@@ -1,9 +1,9 @@
 // The call that loads a trigger and a graph.
 ghost use Rattle.std.specs.Prelude.{◌≡◌, true, false, ℕ, length, get_or, drop, ◌++◌};
-ghost use Rattle.session.specs.Limits.{maxNodes, fixedSize, maxChanges};
-ghost use Rattle.session.specs.Layout.{inLayout, image};
+ghost use Rattle.session.specs.Limits.{max_nodes, fixed_size, max_changes};
+ghost use Rattle.session.specs.Layout.{in_layout, image};
 ghost use Rattle.loading.specs.Solved.{Solved};
-ghost use Rattle.promises.specs.Rules.{given, givenTrigger, givenGraph, loadRules, verdict};
+ghost use Rattle.promises.specs.Rules.{given, given_trigger, given_graph, load_rules, verdict};
 ghost use Rattle.promises.specs.Promises.{Loaded};
 
 use load_rules::load_rule;
@@ -15,7 +15,7 @@ use worklist::WAITING_WORDS;
 
 // Puts the greatest simulation of what the session holds into a table that is zero; how many pairs are admitted.
 pub fn solve(session: &[u32], table: &mut [u32]) -> u32
-    requires { (inLayout session.now ≡ true) × (length table.old ≡ maxNodes) × ((v : ℕ) → get_or table.old v 0 ≡ 0) }
+    requires { (in_layout session.now ≡ true) × (length table.old ≡ max_nodes) × ((v : ℕ) → get_or table.old v 0 ≡ 0) }
     ensures { Solved session.now result table.new }
 {
     let nodes = session[1] as usize;
@@ -44,8 +44,8 @@ pub fn write_sections(
     starts: &[u32],
     ends: &[u32],
 )
-    requires { verdict (loadRules (length session.old) maxChanges (given masks.now values.now links.now inverted samples.now starts.now ends.now)) ≡ 0 }
-    ensures { session.new ≡ image (givenTrigger (given masks.now values.now links.now inverted samples.now starts.now ends.now)) (givenGraph (given masks.now values.now links.now inverted samples.now starts.now ends.now)) (λ u v. false) ++ drop fixedSize session.old }
+    requires { verdict (load_rules (length session.old) max_changes (given masks.now values.now links.now inverted samples.now starts.now ends.now)) ≡ 0 }
+    ensures { session.new ≡ image (given_trigger (given masks.now values.now links.now inverted samples.now starts.now ends.now)) (given_graph (given masks.now values.now links.now inverted samples.now starts.now ends.now)) (λ u v. false) ++ drop fixed_size session.old }
 {
     session[0] = masks.len() as u32;
     session[1] = samples.len() as u32;

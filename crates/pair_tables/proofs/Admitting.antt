@@ -18,16 +18,16 @@ use Rattle.simulation.proofs.Sets.{split, count-le}
 use Rattle.simulation.proofs.Loops.{count_same, total, count-rows}
 use Rattle.bits.specs.Word.{members}
 use Rattle.bits.proofs.Words.{zero-members, also-members}
-use Rattle.session.specs.Limits.{wordBits, maxNodes}
+use Rattle.session.specs.Limits.{word_bits, max_nodes}
 use Rattle.session.specs.Trigger.{matches}
 use Rattle.pair_tables.specs.Tables.{marked, Admits, Admitted}
-use Rattle.simulation.proofs.Gains.{more-here, more-other, row_more}
+use Rattle.simulation.proofs.Gains.{more-here, more_other, row_more}
 
 -- ---- a state: the nodes below k are seen
 
 module _ (samples : List ℕ) (turned : Bool) (mask value u : ℕ) (ts : List ℕ) where
   abbrev accepted : Set
-  accepted v = matches wordBits turned mask value (get_or samples v 0)
+  accepted v = matches word_bits turned mask value (get_or samples v 0)
 
   pub record Seen (k n : ℕ) (ts' : List ℕ) : Type 0 where
     pub long : length ts' ≡ length ts
@@ -60,11 +60,11 @@ module _ (samples : List ℕ) (turned : Bool) (mask value u : ℕ) (ts : List �
             rw (q, get_or-set_same ts' k w 0 l, more-here k, taken, ap (λ (X : Set). X x) m, s.words x k, le-ltb k k (omega arith), and-false, or-false, and-true)
 
         away : (x v : ℕ) → (v ≡ k → ⊥) → marked (set ts' k w) x v ≡ (marked ts x v || (eqb x u && (ltb v (k + 1) && accepted v)))
-        away x v q = rw (get_or-set_other ts' k v w 0 q, more-other v k q) (s.words x v)
+        away x v q = rw (get_or-set_other ts' k v w 0 q, more_other v k q) (s.words x v)
 
-    seen-pass : accepted k ≡ false → Seen (k + 1) n ts'
+    seen_pass : accepted k ≡ false → Seen (k + 1) n ts'
     unfolding count
-    seen-pass left = record {
+    seen_pass left = record {
       long = s.long;
       words = λ x v. ⊎_elim (λ (t : eqb v k ≡ true). here x v (eqb-true v k t)) (λ (t : eqb v k ≡ false). away x v (eqb-false v k t)) (split (eqb v k));
       counted = rw (add-one k, left) (omega (arith, s.counted));
@@ -74,7 +74,7 @@ module _ (samples : List ℕ) (turned : Bool) (mask value u : ℕ) (ts : List �
         here x v q = rw (q, left, and-false) (rw (left, and-false) at (s.words x k))
 
         away : (x v : ℕ) → (v ≡ k → ⊥) → marked ts' x v ≡ (marked ts x v || (eqb x u && (ltb v (k + 1) && accepted v)))
-        away x v q = rw (more-other v k q) (s.words x v)
+        away x v q = rw (more_other v k q) (s.words x v)
 
     -- one store serves both: a bit that is chosen by the test
     pub seen_step : (bit w more : ℕ) (hit : Bool) → k < length ts' → hit ≡ accepted k → bit ≡ 2 ^ u
@@ -83,12 +83,12 @@ module _ (samples : List ℕ) (turned : Bool) (mask value u : ℕ) (ts : List �
         → Seen (k + 1) (n + more) (set ts' k (bit_or (get_or ts' k 0) w))
     seen_step bit w more true l h b p q =
         rw (p, q, b) (seen-take (bit_or (get_or ts' k 0) (2 ^ u)) l (sym h) (also-members (get_or ts' k 0) u))
-    seen_step bit w more false l h b p q = rw (p, q, or_zero_r (get_or ts' k 0), set-get_or ts' k 0, add-zero) (seen-pass (sym h))
+    seen_step bit w more false l h b p q = rw (p, q, or_zero_r (get_or ts' k 0), set-get_or ts' k 0, add-zero) (seen_pass (sym h))
 
 -- a picked number is at most that number
-pub picked-le : (test : Bool) (w n : ℕ) → w ≡ cond test n 0 → w ≤ n
-picked-le true w n e = omega arith
-picked-le false w n e = omega arith
+pub picked_le : (test : Bool) (w n : ℕ) → w ≡ cond test n 0 → w ≤ n
+picked_le true w n e = omega arith
+picked_le false w n e = omega arith
 
 -- ---- two sums change places
 
@@ -112,35 +112,35 @@ unfolding total count
 total-count zero X = refl
 total-count (suc n) X = omega (arith, total-count n X)
 
-total-swap : (m n : ℕ) (A : ℕ → ℕ → Bool) → total m (λ v. count n (λ u. A u v)) ≡ total n (λ u. count m (λ v. A u v))
+total_swap : (m n : ℕ) (A : ℕ → ℕ → Bool) → total m (λ v. count n (λ u. A u v)) ≡ total n (λ u. count m (λ v. A u v))
 unfolding total count
-total-swap zero n A = sym (total-none n)
-total-swap (suc m) n A =
+total_swap zero n A = sym (total-none n)
+total_swap (suc m) n A =
     omega (
       arith,
       total-add n (λ u. cond (A u m) 1 0) (λ u. count m (λ v. A u v)),
       total-count n (λ u. A u m),
-      total-swap m n A,
+      total_swap m n A,
     )
 
 -- ---- all states: those below k are put in
 
 module _ (masks values : List ℕ) (turned : ℕ) (samples : List ℕ) where
   abbrev admits-at : ℕ → ℕ → Bool
-  admits-at u v = matches wordBits (members turned u) (get_or masks u 0) (get_or values u 0) (get_or samples v 0)
+  admits-at u v = matches word_bits (members turned u) (get_or masks u 0) (get_or values u 0) (get_or samples v 0)
 
   abbrev rows : ℕ → ℕ
   rows u = count (length samples) (λ v. admits-at u v)
 
   pub record Filled (k n : ℕ) (ts : List ℕ) : Type 0 where
-    pub long : length ts ≡ maxNodes
+    pub long : length ts ≡ max_nodes
     pub words : (u v : ℕ) → marked ts u v ≡ (ltb u k && (ltb v (length samples) && admits-at u v))
     pub counted : n ≡ total k rows
 
   pub admits-few : {k n : ℕ} {ts ts' : List ℕ} → Admits samples (members turned k) (get_or masks k 0) (get_or values k 0) k ts n ts' → n ≤ length samples
   admits-few {k} a = omega (arith, a.counted, count-le (length samples) (λ v. admits-at k v))
 
-  pub filled-start : {ts : List ℕ} → length ts ≡ maxNodes → ((v : ℕ) → get_or ts v 0 ≡ 0) → Filled 0 0 ts
+  pub filled-start : {ts : List ℕ} → length ts ≡ max_nodes → ((v : ℕ) → get_or ts v 0 ≡ 0) → Filled 0 0 ts
   unfolding total
   filled-start l z = record {
     long = l;
@@ -172,4 +172,4 @@ module _ (masks values : List ℕ) (turned : ℕ) (samples : List ℕ) where
           (λ v.
           count_same n (λ u. admits-at ((v * n + u) % n) ((v * n + u) / n)) (λ u. admits-at u v)
           (λ u l. ap₂ admits-at (digits_mod v l) (digits_div v l)))
-          ∙ total-swap m n admits-at
+          ∙ total_swap m n admits-at

@@ -1,12 +1,12 @@
 // Tables of pairs, a word of states for each node: those that are admitted, tables put together and taken away, pairs counted.
 ghost use Rattle.std.specs.Prelude.{◌≡◌, Bool, true, not, ◌&&◌, ◌||◌, cond, ℕ, ◌-◌, ◌^◌, ◌<◌, ◌≤◌, ◌*◌, ◌/◌, ◌%◌, length, get_or, ltb};
-ghost use Rattle.session.specs.Limits.{maxNodes, maxStates, wordBits};
+ghost use Rattle.session.specs.Limits.{max_nodes, max_states, word_bits};
 ghost use Rattle.session.specs.Layout.{below};
 ghost use Rattle.pair_tables.specs.Tables.{Admits, Admitted};
 ghost use Rattle.simulation.specs.Sets.{count};
-ghost use Rattle.bits.specs.Word.{members, setBits};
+ghost use Rattle.bits.specs.Word.{members, set_bits};
 ghost use Rattle.session.specs.Trigger.{matches};
-ghost use Rattle.pair_tables.specs.Tables.{marked, turnedStates};
+ghost use Rattle.pair_tables.specs.Tables.{marked, turned_states};
 
 // Puts a state into the words of the nodes where a mask and a value agree with the sample, or, with a turn of every bit, where they do not; how many they
 // are. Each word is stored, so there is no branch.
@@ -18,9 +18,9 @@ pub fn put_turned(
     u: u32,
     table: &mut [u32],
 ) -> u32
-    requires mask_bound { (mask < 2 ^ wordBits) × (u < setBits) × (length samples.now ≤ length table.old) × (length samples.now ≤ maxNodes) }
-    requires turn_value { (b : Bool) × (turn ≡ cond b (2 ^ setBits - 1) 0) }
-    ensures { (b : Bool) → turn ≡ cond b (2 ^ setBits - 1) 0 → Admits samples.now b mask value u table.old result table.new }
+    requires mask_bound { (mask < 2 ^ word_bits) × (u < set_bits) × (length samples.now ≤ length table.old) × (length samples.now ≤ max_nodes) }
+    requires turn_value { (b : Bool) × (turn ≡ cond b (2 ^ set_bits - 1) 0) }
+    ensures { (b : Bool) → turn ≡ cond b (2 ^ set_bits - 1) 0 → Admits samples.now b mask value u table.old result table.new }
 {
     let bit = bits::only(u);
     let mut count = 0;
@@ -37,7 +37,7 @@ pub fn put_turned(
 // Puts a state, turned round or not, into the words of the nodes that it admits; how many they are. The turn is known at each call, so that a plain state's
 // loop spends nothing on it, and a turned one's no more than the count.
 pub fn admit(samples: &[u32], turned: bool, mask: u32, value: u32, u: u32, table: &mut [u32]) -> u32
-    requires { (mask < 2 ^ wordBits) × (u < setBits) × (length samples.now ≤ length table.old) × (length samples.now ≤ maxNodes) }
+    requires { (mask < 2 ^ word_bits) × (u < set_bits) × (length samples.now ≤ length table.old) × (length samples.now ≤ max_nodes) }
     ensures { Admits samples.now turned mask value u table.old result table.new }
 {
     if turned {
@@ -50,8 +50,8 @@ pub fn admit(samples: &[u32], turned: bool, mask: u32, value: u32, u: u32, table
 // The states whose answer is turned round: the inverted ones, but for a mask of zero, which admits every node. It is told once for a state; no loop over nodes
 // asks again.
 pub fn turned_states(masks: &[u32], inverted: u32) -> u32
-    requires { length masks.now ≤ setBits }
-    ensures { members result ≡ turnedStates masks.now inverted }
+    requires { length masks.now ≤ set_bits }
+    ensures { members result ≡ turned_states masks.now inverted }
 {
     if inverted == 0 {
         return 0;
@@ -75,8 +75,8 @@ pub fn admitted(
     samples: &[u32],
     table: &mut [u32],
 ) -> u32
-    requires values_len { (length values.now ≡ length masks.now) × (length masks.now ≤ maxStates) × (length samples.now ≤ maxNodes) × (length table.old ≡ maxNodes) }
-    requires masks_value { (below (2 ^ wordBits) masks.now ≡ true) × ((v : ℕ) → get_or table.old v 0 ≡ 0) }
+    requires values_len { (length values.now ≡ length masks.now) × (length masks.now ≤ max_states) × (length samples.now ≤ max_nodes) × (length table.old ≡ max_nodes) }
+    requires masks_value { (below (2 ^ word_bits) masks.now ≡ true) × ((v : ℕ) → get_or table.old v 0 ≡ 0) }
     ensures { Admitted masks.now values.now turned samples.now result table.new }
 {
     let mut count = 0;
@@ -97,9 +97,9 @@ pub fn admitted(
 
 // The states that admit a sample: those that agree with it, turned round where they are to be.
 pub fn admitted_at(masks: &[u32], values: &[u32], turned: u32, sample: u32) -> u32
-    requires values_len { (length values.now ≡ length masks.now) × (length masks.now ≤ maxStates) × (below (2 ^ wordBits) masks.now ≡ true) }
+    requires values_len { (length values.now ≡ length masks.now) × (length masks.now ≤ max_states) × (below (2 ^ word_bits) masks.now ≡ true) }
     requires by_index { (u : ℕ) → members turned u ≡ true → u < length masks.now }
-    ensures { members result ≡ (λ u. ltb u (length masks.now) && matches wordBits (members turned u) (get_or masks.now u 0) (get_or values.now u 0) sample) }
+    ensures { members result ≡ (λ u. ltb u (length masks.now) && matches word_bits (members turned u) (get_or masks.now u 0) (get_or values.now u 0) sample) }
 {
     let mut all = 0;
     let mut u = 0;
@@ -138,7 +138,7 @@ pub fn put_together(table: &mut [u32], other: &[u32])
 
 // How many pairs a table has, of this many states and nodes.
 pub fn pairs_in(table: &[u32], states: u32, nodes: usize) -> u32
-    requires { (states ≤ maxStates) × (nodes ≤ maxNodes) × (nodes ≤ length table.now) × ((u v : ℕ) → marked table.now u v ≡ true → u < states) }
+    requires { (states ≤ max_states) × (nodes ≤ max_nodes) × (nodes ≤ length table.now) × ((u v : ℕ) → marked table.now u v ≡ true → u < states) }
     ensures { result ≡ count (nodes * states) (λ p. marked table.now (p % states) (p / states)) }
 {
     let mut count = 0;

@@ -12,9 +12,9 @@ use Rattle.simulation.specs.Pattern.{Pattern, pair, system, best, plain}
 use Rattle.simulation.proofs.Terms as terms
 use Rattle.simulation.proofs.Terms.{changed, joined}
 use Rattle.simulation.proofs.Sets.{clash, split, refuted}
-use Rattle.simulation.proofs.Pattern.{pair-state, pair-node, pair-whole, meets-take, best-state, best-pair, best-make, best_of}
-use Rattle.simulation.proofs.Change.{minus-make, minus-l, minus-r}
-use Rattle.simulation.proofs.Plain.{plain-grows, plain-chain}
+use Rattle.simulation.proofs.Pattern.{pair-state, pair-node, pair-whole, meets-take, best-state, best-pair, best_make, best_of}
+use Rattle.simulation.proofs.Change.{minus_make, minus_l, minus_r}
+use Rattle.simulation.proofs.Plain.{plain_grows, plain-chain}
 use Rattle.session.specs.Trigger.{Trigger, Graph, Marks, states, nodes, linked, edge, admits, pattern}
 use Rattle.promises.specs.Standing.{stands}
 use Rattle.promises.specs.Demands.{Chain, last, link}
@@ -48,31 +48,31 @@ module _ (t : Trigger) (samples es more-es : List ℕ) (a b : ℕ) (one_more : e
   unfolding stands
   stands-less = refl
 
-  pub stands-grows : (u v : ℕ) → stands t (over samples es) u v ≡ true → stands t (over samples more-es) u v ≡ true
-  stands-grows u v h =
-      rw stands-more (plain-grows n (nodes less) (linked t) (admits t less) (edge less) a b u v (rw stands-less at h))
+  pub stands_grows : (u v : ℕ) → stands t (over samples es) u v ≡ true → stands t (over samples more-es) u v ≡ true
+  stands_grows u v h =
+      rw stands-more (plain_grows n (nodes less) (linked t) (admits t less) (edge less) a b u v (rw stands-less at h))
 
   abbrev moved : Set
   moved = changed (system A) (system A).meets (system B).meets
 
-  moved-make : (u v : ℕ) → stands t less u v ≡ false → stands t more u v ≡ true → In moved (pair A u v)
+  moved_make : (u v : ℕ) → stands t less u v ≡ false → stands t more u v ≡ true → In moved (pair A u v)
   unfolding changed
-  moved-make u v old new =
+  moved_make u v old new =
       let h : best B u v ≡ true = rw stands-more at new in
       let l = best-state B u v h in
-      minus-make (greatest (system B)) (greatest (system A)) (pair A u v) (best-pair B u v h)
-      (refuted (greatest (system A) (pair A u v)) (λ e. clash (best-make A u v l e) (rw stands-less at old)))
+      minus_make (greatest (system B)) (greatest (system A)) (pair A u v) (best-pair B u v h)
+      (refuted (greatest (system A) (pair A u v)) (λ e. clash (best_make A u v l e) (rw stands-less at old)))
 
   -- a changed pair has changed
   moved-take : (p : ℕ) → In moved p → (stands t less (p % n) (p / n) ≡ false) × (stands t more (p % n) (p / n) ≡ true)
   unfolding changed
   moved-take p h =
-      let new = best_of B p (minus-l (greatest (system B)) (greatest (system A)) p h) in (
+      let new = best_of B p (minus_l (greatest (system B)) (greatest (system A)) p h) in (
         rw stands-less
             (refuted (best A (p % n) (p / n))
             (λ e.
             clash (subst (In (greatest (system A))) (pair-whole A p) (best-pair A (p % n) (p / n) e))
-            (minus-r (greatest (system B)) (greatest (system A)) p h))),
+            (minus_r (greatest (system B)) (greatest (system A)) p h))),
         rw stands-more new,
       )
 
@@ -94,12 +94,12 @@ module _ (t : Trigger) (samples es more-es : List ℕ) (a b : ℕ) (one_more : e
     stands-chain u v old new =
         let l = best-state B u v (rw stands-more at new) in
         rw (pair-state A u v l, pair-node A u v l) at
-        (walk (plain-chain n (nodes less) (linked t) (admits t less) (edge less) a b (pair A u v) (moved-make u v old new)))
+        (walk (plain-chain n (nodes less) (linked t) (admits t less) (edge less) a b (pair A u v) (moved_make u v old new)))
 
 -- a mark that differs where the second holds all of the first
-pub only-gained : (before after : Marks) (u v : ℕ) → (before u v ≡ true → after u v ≡ true) → (before u v ≡ after u v → ⊥)
+pub only_gained : (before after : Marks) (u v : ℕ) → (before u v ≡ true → after u v ≡ true) → (before u v ≡ after u v → ⊥)
     → (before u v ≡ false) × (after u v ≡ true)
-only-gained before after u v grows differs =
+only_gained before after u v grows differs =
     ⊎_elim
     (λ e. absurd (differs (e ∙ sym (grows e))))
     (λ e. (e, ⊎_elim (λ f. f) (λ f. absurd (differs (e ∙ sym f))) (split (after u v))))

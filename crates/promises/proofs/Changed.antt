@@ -10,13 +10,13 @@ use Rattle.simulation.specs.System.{supported, greatest, refined, closure}
 use Rattle.simulation.specs.Pattern.{Pattern, system, best, plain}
 use Rattle.simulation.proofs.Terms.{joined}
 use Rattle.simulation.proofs.Pattern.{pair-whole}
-use Rattle.simulation.proofs.Plain.{plain-seeds, fresh, plain-inserted, plain-deleted, plain-first}
+use Rattle.simulation.proofs.Plain.{plain-seeds, fresh, plain_inserted, plain_deleted, plain-first}
 use Rattle.session.specs.Trigger.{Trigger, Graph, states, nodes, linked, edge, admits, pattern}
-use Rattle.promises.specs.Standing.{stands, pairsOf, trialSet}
+use Rattle.promises.specs.Standing.{stands, pairs_of, trial_set}
 use Rattle.promises.proofs.Chains.{over}
 
 -- the pairs that stand are the greatest set of the system
-pub pairs-stands : (t : Trigger) (g : Graph) → 0 < states t → pairsOf t g (stands t g) ≡ greatest (system (pattern t g))
+pub pairs-stands : (t : Trigger) (g : Graph) → 0 < states t → pairs_of t g (stands t g) ≡ greatest (system (pattern t g))
 unfolding stands best
 pairs-stands t g some =
     fun_ext
@@ -46,38 +46,38 @@ module _ (t : Trigger) (some : 0 < states t) (samples es more-es : List ℕ) (a 
   pattern-more = ap (λ (e : ℕ → ℕ → Bool). plain n (nodes less) (linked t) (admits t less) e) one_more
 
   abbrev old : Set
-  old = pairsOf t less (stands t less)
+  old = pairs_of t less (stands t less)
 
   abbrev new : Set
-  new = pairsOf t more (stands t more)
+  new = pairs_of t more (stands t more)
 
   new_is : new ≡ greatest (system B)
   new_is = pairs-stands t more some ∙ ap (λ (P : Pattern). greatest (system P)) pattern-more
 
   -- insertion: the trial set, refined beside what stood
-  trial-is : trialSet t more (stands t less) a b ≡ closure (system B) (fresh (system A)) (plain-seeds n (linked t) (admits t less) a b)
-  unfolding trialSet admits
+  trial-is : trial_set t more (stands t less) a b ≡ closure (system B) (fresh (system A)) (plain-seeds n (linked t) (admits t less) a b)
+  unfolding trial_set admits
   trial-is =
       ap₂ (λ (P : Pattern) (X : Set). closure (system P) (λ p. admits t less (p % n) (p / n) && not (X p)) (plain-seeds n (linked t) (admits t less) a b))
       pattern-more (pairs-stands t less some)
 
-  pub inserted-stands : union (pairsOf t (over samples es) (stands t (over samples es)))
-      (refined (system (pattern t (over samples more-es))) (pairsOf t (over samples es) (stands t (over samples es))) (trialSet t (over samples more-es) (stands t (over samples es)) a b))
-      ≡ pairsOf t (over samples more-es) (stands t (over samples more-es))
-  inserted-stands =
-      ap (λ (P : Pattern). union old (refined (system P) old (trialSet t more (stands t less) a b))) pattern-more
+  pub inserted_stands : union (pairs_of t (over samples es) (stands t (over samples es)))
+      (refined (system (pattern t (over samples more-es))) (pairs_of t (over samples es) (stands t (over samples es))) (trial_set t (over samples more-es) (stands t (over samples es)) a b))
+      ≡ pairs_of t (over samples more-es) (stands t (over samples more-es))
+  inserted_stands =
+      ap (λ (P : Pattern). union old (refined (system P) old (trial_set t more (stands t less) a b))) pattern-more
       ∙ ap₂ (λ (S T : Set). union S (refined (system B) S T)) (pairs-stands t less some) trial-is
-      ∙ plain-inserted n (nodes less) (linked t) (admits t less) (edge less) a b
+      ∙ plain_inserted n (nodes less) (linked t) (admits t less) (edge less) a b
       ∙ sym new_is
 
   -- deletion: what stood, refined with nothing settled
-  pub deleted-stands : refined (system (pattern t (over samples es))) none (pairsOf t (over samples more-es) (stands t (over samples more-es)))
-      ≡ pairsOf t (over samples es) (stands t (over samples es))
-  deleted-stands = rw (new_is, pairs-stands t less some) (plain-deleted n (nodes less) (linked t) (admits t less) (edge less) a b)
+  pub deleted_stands : refined (system (pattern t (over samples es))) none (pairs_of t (over samples more-es) (stands t (over samples more-es)))
+      ≡ pairs_of t (over samples es) (stands t (over samples es))
+  deleted_stands = rw (new_is, pairs-stands t less some) (plain_deleted n (nodes less) (linked t) (admits t less) (edge less) a b)
 
   -- away from the edge's start all keep their support
-  pub deleted-first : (p : ℕ) → In (pairsOf t (over samples more-es) (stands t (over samples more-es))) p → (p / states t ≡ a → ⊥)
-      → In (supported (system (pattern t (over samples es))) (pairsOf t (over samples more-es) (stands t (over samples more-es)))) p
-  deleted-first p h away =
+  pub deleted_first : (p : ℕ) → In (pairs_of t (over samples more-es) (stands t (over samples more-es))) p → (p / states t ≡ a → ⊥)
+      → In (supported (system (pattern t (over samples es))) (pairs_of t (over samples more-es) (stands t (over samples more-es)))) p
+  deleted_first p h away =
       subst (λ (X : Set). In (supported (system A) X) p) (sym new_is)
       (plain-first n (nodes less) (linked t) (admits t less) (edge less) a b p (ap (λ (X : Set). X p) (sym new_is) ∙ h) away)

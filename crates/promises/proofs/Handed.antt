@@ -7,12 +7,12 @@ use lib.ListN.{length, length-append}
 use lib.Seq.{take-append_seam}
 use borrow.Author.Tests.{le-leb}
 use Rattle.promises.specs.declared.Answer.{Answer}
-use Rattle.promises.specs.Answers.{told, changesTold, handedBack}
+use Rattle.promises.specs.Answers.{told, changes_told, handed_back}
 
-pub handed-back : (list rest : List ℤ) (r : Answer) → changesTold (told r) ≡ length list → handedBack (list ++ rest) r ≡ list
-unfolding handedBack
-handed-back list rest r e =
+pub handed_back_lem : (list rest : List ℤ) (r : Answer) → changes_told (told r) ≡ length list → handed_back (list ++ rest) r ≡ list
+unfolding handed_back
+handed_back_lem list rest r e =
     rw (e, le-leb (length list) (length (list ++ rest)) (omega (arith, length-append list rest))) (take-append_seam list rest)
 
-pub handed-none : (room : List ℤ) (r : Answer) → changesTold (told r) ≡ 0 → handedBack room r ≡ []
-handed-none room r e = handed-back [] room r e
+pub handed_none : (room : List ℤ) (r : Answer) → changes_told (told r) ≡ 0 → handed_back room r ≡ []
+handed_none room r e = handed_back_lem [] room r e

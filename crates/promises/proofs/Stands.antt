@@ -3,13 +3,13 @@ use Prim.Native.Nat.{ℕ, ◌<◌}
 use mathlib.Core.Path.{◌≡◌}
 use mathlib.Core.Logic.{◌↔◌}
 use mathlib.Core.Bool.{true, not, ◌||◌}
-use Rattle.simulation.specs.Sets.{anyBelow}
+use Rattle.simulation.specs.Sets.{any_below}
 use Rattle.simulation.proofs.Terms.{Simulates}
-use Rattle.simulation.proofs.Sets.{same, implies-make, implies-take, any-make, any-take, all-make, all_take}
+use Rattle.simulation.proofs.Sets.{same, implies_make, implies_take, any_make, any_take, all_make, all_take}
 use Rattle.simulation.proofs.Pattern.{best-simulates, within-best}
 use Rattle.session.specs.Trigger.{Trigger, Graph, Marks, states, nodes, linked, admits, pattern}
 use Rattle.session.specs.Reached.{Reached, reached}
-use Rattle.session.proofs.Reached.{reached-inside, reached-one, reached-least, reached-iff}
+use Rattle.session.proofs.Reached.{reached-inside, reached-one, reached_least, reached_iff}
 use Rattle.promises.specs.Standing.{Simulation, stands, fires, Matched}
 
 module _ (t : Trigger) (g : Graph) where
@@ -46,49 +46,49 @@ module _ (t : Trigger) (g : Graph) where
 
   -- ---- firing
 
-  pub fires-make : (m : Marks) → ((u : ℕ) → reached t u ≡ true → (v : ℕ) × (v < nodes g) × (m u v ≡ true)) → fires t g m ≡ true
+  pub fires_make : (m : Marks) → ((u : ℕ) → reached t u ≡ true → (v : ℕ) × (v < nodes g) × (m u v ≡ true)) → fires t g m ≡ true
   unfolding fires
-  fires-make m h =
-      all-make (states t) (λ u. not (reached t u) || anyBelow (nodes g) (m u))
+  fires_make m h =
+      all_make (states t) (λ u. not (reached t u) || any_below (nodes g) (m u))
       (λ u l.
-      implies-make (reached t u) (anyBelow (nodes g) (m u)) (λ r. let w = h u r in any-make (nodes g) (m u) w.0 w.1 w.2))
+      implies_make (reached t u) (any_below (nodes g) (m u)) (λ r. let w = h u r in any_make (nodes g) (m u) w.0 w.1 w.2))
 
   pub fires-take : (m : Marks) → fires t g m ≡ true → (u : ℕ) → reached t u ≡ true → (v : ℕ) × (v < nodes g) × (m u v ≡ true)
   unfolding fires
   fires-take m h u r =
-      any-take (nodes g) (m u)
-      (implies-take (reached t u) (anyBelow (nodes g) (m u))
-      (all_take (states t) (λ u. not (reached t u) || anyBelow (nodes g) (m u)) h u (reached-inside t u r)) r)
+      any_take (nodes g) (m u)
+      (implies_take (reached t u) (any_below (nodes g) (m u))
+      (all_take (states t) (λ u. not (reached t u) || any_below (nodes g) (m u)) h u (reached-inside t u r)) r)
 
   -- "The trigger fires when every state stands at some node", every reached one
-  pub fires-iff : (fires t g (stands t g) ≡ true) ↔ ((u : ℕ) → Reached t u → (v : ℕ) × (stands t g u v ≡ true))
-  fires-iff = (
-    λ h u c. let w = fires-take (stands t g) h u ((reached-iff t u).1 c) in (w.0, w.2),
+  pub fires_iff : (fires t g (stands t g) ≡ true) ↔ ((u : ℕ) → Reached t u → (v : ℕ) × (stands t g u v ≡ true))
+  fires_iff = (
+    λ h u c. let w = fires-take (stands t g) h u ((reached_iff t u).1 c) in (w.0, w.2),
     λ h.
-        fires-make (stands t g)
-        (λ u r. let w = h u ((reached-iff t u).0 r) in (w.0, (stands-inside u w.0 w.1).1, w.1)),
+        fires_make (stands t g)
+        (λ u r. let w = h u ((reached_iff t u).0 r) in (w.0, (stands-inside u w.0 w.1).1, w.1)),
   )
 
   -- where State One stands, so does all that is reached: firing is whether State One stands somewhere. Of marks that are no simulation this does not hold.
-  pub fires-one : 0 < states t → fires t g (stands t g) ≡ anyBelow (nodes g) (stands t g 0)
+  pub fires-one : 0 < states t → fires t g (stands t g) ≡ any_below (nodes g) (stands t g 0)
   fires-one l =
-      same (fires t g (stands t g)) (anyBelow (nodes g) (stands t g 0))
-      (λ h. let w = fires-take (stands t g) h 0 (reached-one t l) in any-make (nodes g) (stands t g 0) w.0 w.1 w.2)
+      same (fires t g (stands t g)) (any_below (nodes g) (stands t g 0))
+      (λ h. let w = fires-take (stands t g) h 0 (reached-one t l) in any_make (nodes g) (stands t g 0) w.0 w.1 w.2)
       (λ h.
-      let w = any-take (nodes g) (stands t g 0) h in
-      fires-iff.1
+      let w = any_take (nodes g) (stands t g 0) h in
+      fires_iff.1
       (λ u c.
-      reached-least t (λ u. (v : ℕ) × (stands t g u v ≡ true)) (λ z. (w.0, w.2)) (λ u u' s k d. stands_on u u' s.0 k d s.1) u ((reached-iff t u).1 c)))
+      reached_least t (λ u. (v : ℕ) × (stands t g u v ≡ true)) (λ z. (w.0, w.2)) (λ u u' s k d. stands_on u u' s.0 k d s.1) u ((reached_iff t u).1 c)))
 
   -- ---- document 000's relation, of a trigger and a graph: where every state stands it is what stands, and where a pair is in it every state stands
 
-  pub matched-all : ((u : ℕ) → u < states t → (v : ℕ) × (stands t g u v ≡ true)) → (u v : ℕ) → Matched t g u v ↔ (stands t g u v ≡ true)
-  matched-all each u v = (
+  pub matched_all : ((u : ℕ) → u < states t → (v : ℕ) × (stands t g u v ≡ true)) → (u v : ℕ) → Matched t g u v ↔ (stands t g u v ≡ true)
+  matched_all each u v = (
     λ w. stands-greatest (λ u v. w.0 u v ≡ true) w.1.simulates u v w.2,
     λ h. (stands t g, record { simulates = stands-simulates; total = each }, h),
   )
 
-  pub matched-each : (u v : ℕ) → Matched t g u v → (x : ℕ) → x < states t → (y : ℕ) × (stands t g x y ≡ true)
-  matched-each u v w x l =
+  pub matched_each : (u v : ℕ) → Matched t g u v → (x : ℕ) → x < states t → (y : ℕ) × (stands t g x y ≡ true)
+  matched_each u v w x l =
       let y = w.1.total x l in
       (y.0, stands-greatest (λ u v. w.0 u v ≡ true) w.1.simulates x y.0 y.1)

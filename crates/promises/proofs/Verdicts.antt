@@ -18,19 +18,19 @@ accepts-or zero = inl refl
 accepts-or (suc n) = inr (λ e. absurd (omega arith))
 
 -- a row that is not broken leaves the verdict to the rows after it
-pub verdict-skip : (n : ℕ) (b : Bool) (rs : List Rule) → b ≡ false → verdict (rule n b ∷ rs) ≡ verdict rs
+pub verdict_skip : (n : ℕ) (b : Bool) (rs : List Rule) → b ≡ false → verdict (rule n b ∷ rs) ≡ verdict rs
 unfolding verdict
-verdict-skip n b rs e = rw e
+verdict_skip n b rs e = rw e
 
-pub verdict-pass : (n : ℕ) (b : Bool) (rs : List Rule) → 0 < n → verdict (rule n b ∷ rs) ≡ 0 → (b ≡ false) × (verdict rs ≡ 0)
+pub verdict_pass : (n : ℕ) (b : Bool) (rs : List Rule) → 0 < n → verdict (rule n b ∷ rs) ≡ 0 → (b ≡ false) × (verdict rs ≡ 0)
 unfolding verdict
-verdict-pass n true rs l e = absurd (omega arith)
-verdict-pass n false rs l e = (refl, e)
+verdict_pass n true rs l e = absurd (omega arith)
+verdict_pass n false rs l e = (refl, e)
 
 -- a test that found what a row says: one that holds is passed, and one that is broken gives its number
 module _ (n : ℕ) (b r : Bool) (rs : List Rule) (e : r ≡ b) where
   pub row-passed : (k : ℕ) → r ≡ false → k ≡ verdict rs → k ≡ verdict (rule n b ∷ rs)
-  row-passed k f h = h ∙ sym (verdict-skip n b rs (sym e ∙ f))
+  row-passed k f h = h ∙ sym (verdict_skip n b rs (sym e ∙ f))
 
   pub row-broken : r ≡ true → n ≡ verdict (rule n b ∷ rs)
   unfolding verdict
@@ -52,13 +52,13 @@ rows-broken (r ∷ rs) more n e bad = by r.broken refl (λ h. rows-broken rs mor
 
 pub rows-passed : (rs more : List Rule) (k : ℕ) → Unbroken rs → k ≡ verdict more → k ≡ verdict (rs ++ more)
 rows-passed [] more k h e = e
-rows-passed (r ∷ rs) more k h e = rows-passed rs more k h.1 e ∙ sym (verdict-skip r.number r.broken (rs ++ more) h.0)
+rows-passed (r ∷ rs) more k h e = rows-passed rs more k h.1 e ∙ sym (verdict_skip r.number r.broken (rs ++ more) h.0)
 
 -- the verdict is 0 where no rule is broken, and else the number of a broken rule before which none is
 pub verdict-none : (rs : List Rule) → Unbroken rs → verdict rs ≡ 0
 unfolding verdict
 verdict-none [] h = refl
-verdict-none (r ∷ rs) h = verdict-skip r.number r.broken rs h.0 ∙ verdict-none rs h.1
+verdict-none (r ∷ rs) h = verdict_skip r.number r.broken rs h.0 ∙ verdict-none rs h.1
 
 pub verdict-first : (rs : List Rule) → (verdict rs ≡ 0 → ⊥)
     → (earlier : List Rule) × (r : Rule) × (later : List Rule) × (rs ≡ earlier ++ r ∷ later) × Unbroken earlier × (r.broken ≡ true) × (verdict rs ≡ r.number)
@@ -72,7 +72,7 @@ verdict-first (r ∷ rs) h = by r.broken refl (verdict-first rs)
         → (earlier : List Rule) × (x : Rule) × (later : List Rule) × (r ∷ rs ≡ earlier ++ x ∷ later) × Unbroken earlier × (x.broken ≡ true) × (verdict (r ∷ rs) ≡ x.number)
     by true e more = ([], r, rs, refl, tt, e, rw e)
     by false e more =
-        let skip : verdict (r ∷ rs) ≡ verdict rs = verdict-skip r.number r.broken rs e in
+        let skip : verdict (r ∷ rs) ≡ verdict rs = verdict_skip r.number r.broken rs e in
         let w = more (λ z. h (skip ∙ z)) in
         (r ∷ w.0, w.1, w.2, ap (λ (l : List Rule). r ∷ l) w.3, (e, w.4), w.5, skip ∙ w.6)
 
@@ -81,10 +81,10 @@ abbrev pub Lacks : ℕ → List Rule → Type 0
 Lacks n [] = Unit {0}
 Lacks n (r ∷ rs) = (r.number ≡ n → ⊥) × Lacks n rs
 
-pub verdict-lacks : (n : ℕ) (rs : List Rule) → (n ≡ 0 → ⊥) → Lacks n rs → verdict rs ≡ n → ⊥
+pub verdict_lacks : (n : ℕ) (rs : List Rule) → (n ≡ 0 → ⊥) → Lacks n rs → verdict rs ≡ n → ⊥
 unfolding verdict
-verdict-lacks n [] some h e = some (sym e)
-verdict-lacks n (r ∷ rs) some h e = by r.broken refl (verdict-lacks n rs some h.1)
+verdict_lacks n [] some h e = some (sym e)
+verdict_lacks n (r ∷ rs) some h e = by r.broken refl (verdict_lacks n rs some h.1)
   where
     by : (b : Bool) → r.broken ≡ b → (verdict rs ≡ n → ⊥) → ⊥
     by true q more = h.0 (rw q at e)

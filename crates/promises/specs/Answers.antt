@@ -34,27 +34,27 @@ abbrev pub told : Answer → Outcome Summary
 told (A.Accepted r) = accepted record { fires = firing r.firing; trials = r.trials; changes = r.changes }
 told (A.Refused n) = refused n
 
-abbrev pub toldStanding : Standing → Outcome Bool
-toldStanding S.Stands = accepted true
-toldStanding S.Absent = accepted false
-toldStanding (S.Refused n) = refused n
+abbrev pub told_standing : Standing → Outcome Bool
+told_standing S.Stands = accepted true
+told_standing S.Absent = accepted false
+told_standing (S.Refused n) = refused n
 
-abbrev pub toldFiring : FiringAnswer → Outcome Bool
-toldFiring (F.Now f) = accepted (firing f)
-toldFiring (F.Refused n) = refused n
+abbrev pub told_firing : FiringAnswer → Outcome Bool
+told_firing (F.Now f) = accepted (firing f)
+told_firing (F.Refused n) = refused n
 
-abbrev pub toldOrder : OrderAnswer → Outcome ℕ
-toldOrder (O.Listed n) = accepted n
-toldOrder (O.Refused n) = refused n
+abbrev pub told_order : OrderAnswer → Outcome ℕ
+told_order (O.Listed n) = accepted n
+told_order (O.Refused n) = refused n
 
-abbrev pub firesTold : Outcome Summary → Bool
-firesTold (accepted s) = s.fires
-firesTold (refused n) = false
+abbrev pub fires_told : Outcome Summary → Bool
+fires_told (accepted s) = s.fires
+fires_told (refused n) = false
 
 -- "handed back as that filled part of it": nothing for a refused answer, or for a room that is too short
-abbrev pub changesTold : Outcome Summary → ℕ
-changesTold (accepted s) = s.changes
-changesTold (refused n) = 0
+abbrev pub changes_told : Outcome Summary → ℕ
+changes_told (accepted s) = s.changes
+changes_told (refused n) = 0
 
-unfoldable pub handedBack : List ℤ → Answer → List ℤ
-handedBack room r = let n = changesTold (told r) in cond (leb n (length room)) (take n room) []
+unfoldable pub handed_back : List ℤ → Answer → List ℤ
+handed_back room r = let n = changes_told (told r) in cond (leb n (length room)) (take n room) []

@@ -1,33 +1,33 @@
 -- 02, Job 8, "One graph, one memory", over the promises of the calls. It is proved in proofs/OneMemory.
 use Rattle.std.specs.Prelude.{ℕ, ◌<◌, ◌≡◌, ◌↔◌, true, List, [], ◌++◌, ℤ, pos, ◌-ℤ◌, length, take}
-use Rattle.session.specs.Limits.{fixedSize}
+use Rattle.session.specs.Limits.{fixed_size}
 use Rattle.session.specs.Trigger.{Graph, Marks, states, nodes, edge}
-use Rattle.session.specs.Layout.{triggerOf, graph_of}
+use Rattle.session.specs.Layout.{trigger_of, graph_of}
 use Rattle.listing.specs.Changes.{size_of}
 use Rattle.listing.specs.Ledger.{ledger, standing, entries, Alternate}
 use Rattle.promises.specs.declared.Answer.{Answer}
 use Rattle.promises.specs.Standing.{stands}
-use Rattle.promises.specs.Answers.{handedBack}
-use Rattle.promises.specs.Rules.{Kind, Given, verdict, loadRules}
+use Rattle.promises.specs.Answers.{handed_back}
+use Rattle.promises.specs.Rules.{Kind, Given, verdict, load_rules}
 use Rattle.promises.specs.Promises.{Loaded, Edited}
 
 -- ---- "reached from its load by the engine's calls alone"
 
 -- One call of the engine after a load, with a change room of its own: the session that it meets, the list that it hands back and the session that it
 -- leaves. A load that is accepted is none of these: it begins anew. A further call of the library is one constructor more here, and one clause more
--- of `called-moves`.
+-- of `called_moves`.
 pub data Called : List ℕ → List ℤ → List ℕ → Type 0 where
   -- an insertion or a deletion, accepted or refused
-  edit : {k : Kind} {s : List ℕ} {a b : ℕ} {c : List ℤ} {r : Answer} {s' : List ℕ} {c' : List ℤ} → Edited k s a b c r s' c' → Called s (handedBack c' r) s'
+  edit : {k : Kind} {s : List ℕ} {a b : ℕ} {c : List ℤ} {r : Answer} {s' : List ℕ} {c' : List ℤ} → Edited k s a b c r s' c' → Called s (handed_back c' r) s'
   -- a load that is refused
-  refusedLoad : {x : Given} {s : List ℕ} {c : List ℤ} {r : Answer} {s' : List ℕ} {c' : List ℤ} → (verdict (loadRules (length s) (length c) x) ≡ 0 → ⊥)
-      → Loaded x s c r s' c' → Called s (handedBack c' r) s'
+  refused_load : {x : Given} {s : List ℕ} {c : List ℤ} {r : Answer} {s' : List ℕ} {c' : List ℤ} → (verdict (load_rules (length s) (length c) x) ≡ 0 → ⊥)
+      → Loaded x s c r s' c' → Called s (handed_back c' r) s'
   -- a question: it is lent the session to read alone, and has no list
   question : {s : List ℕ} → Called s [] s
 
 -- A session so reached: left by an accepted load, of anything and into any memory, or by one more call.
 pub data ByCalls : List ℕ → Type 0 where
-  load : {x : Given} {s : List ℕ} {c : List ℤ} {r : Answer} {s' : List ℕ} {c' : List ℤ} → verdict (loadRules (length s) (length c) x) ≡ 0
+  load : {x : Given} {s : List ℕ} {c : List ℤ} {r : Answer} {s' : List ℕ} {c' : List ℤ} → verdict (load_rules (length s) (length c) x) ≡ 0
       → Loaded x s c r s' c' → ByCalls s'
   call : {s : List ℕ} {list : List ℤ} {s' : List ℕ} → ByCalls s → Called s list s' → ByCalls s'
 
@@ -42,8 +42,8 @@ SameEdges g g' = (v w : ℕ) → (edge g v w ≡ true) ↔ (edge g' v w ≡ true
 -- these are the ones given is demand 3.
 abbrev pub OneMemory : Type 0
 OneMemory = (s s' : List ℕ) → ByCalls s → ByCalls s'
-    → triggerOf s ≡ triggerOf s' → (graph_of s).samples ≡ (graph_of s').samples → SameEdges (graph_of s) (graph_of s')
-    → take fixedSize s ≡ take fixedSize s'
+    → trigger_of s ≡ trigger_of s' → (graph_of s).samples ≡ (graph_of s').samples → SameEdges (graph_of s) (graph_of s')
+    → take fixed_size s ≡ take fixed_size s'
 
 -- ---- the ledger
 
@@ -53,17 +53,17 @@ pub data Since : List ℕ → List ℤ → List ℕ → Type 0 where
   more : {s : List ℕ} {list : List ℤ} {s' : List ℕ} {lists : List ℤ} {s'' : List ℕ} → Called s list s' → Since s' lists s'' → Since s (list ++ lists) s''
 
 -- what stands in the graph that a session holds
-abbrev pub standsIn : List ℕ → Marks
-standsIn s = stands (triggerOf s) (graph_of s)
+abbrev pub stands_in : List ℕ → Marks
+stands_in s = stands (trigger_of s) (graph_of s)
 
 pub record Ledger (s : List ℕ) (lists : List ℤ) (s' : List ℕ) : Type 0 where
   -- "for every pair the additions less the removals listed along any such sequence of edits after a load equal its standing at the end (1 or 0)
   -- less its standing at the beginning"
-  pub sums : (u v : ℕ) → u < states (triggerOf s) → v < nodes (graph_of s)
-      → ledger u v lists ≡ pos (standing (standsIn s' u v)) -ℤ pos (standing (standsIn s u v))
+  pub sums : (u v : ℕ) → u < states (trigger_of s) → v < nodes (graph_of s)
+      → ledger u v lists ≡ pos (standing (stands_in s' u v)) -ℤ pos (standing (stands_in s u v))
   -- and of one pair the signs alternate, from its standing at the beginning on
-  pub alternate : (u v : ℕ) → u < states (triggerOf s) → v < nodes (graph_of s)
-      → Alternate (standsIn s u v) (size_of u v) (entries (size_of u v) lists)
+  pub alternate : (u v : ℕ) → u < states (trigger_of s) → v < nodes (graph_of s)
+      → Alternate (stands_in s u v) (size_of u v) (entries (size_of u v) lists)
 
 -- from a load on, or from any call after it
 abbrev pub Ledgers : Type 0

@@ -1,13 +1,13 @@
 -- 01, "Standing", with the firing of 02, Job 5; and the trial set of "Edits and what they report".
 use Rattle.std.specs.Prelude.{ℕ, ◌*◌, ◌<◌, ◌≡◌, ◌↔◌, Bool, true, not, ◌&&◌, ◌||◌, List, eqb, length, get_or}
-use Rattle.simulation.specs.Sets.{Set, all_below, anyBelow, count}
+use Rattle.simulation.specs.Sets.{Set, all_below, any_below, count}
 use Rattle.simulation.specs.Ordered.{list_of}
 use Rattle.simulation.specs.System.{closure}
 use Rattle.simulation.specs.Pattern.{paired, system, best}
 use Rattle.bits.specs.Word.{members, word}
 use Rattle.session.specs.Trigger.{Trigger, Graph, Marks, states, nodes, linked, edge, admits, pattern}
 use Rattle.session.specs.Reached.{Reached, reached}
-use Rattle.session.specs.Layout.{table, validTrigger}
+use Rattle.session.specs.Layout.{table, valid_trigger}
 
 -- "A simulation is a set of pairs (state u, node v) such that u admits v, and for each link from u to u' there is an edge from v to some v'
 -- with (u', v') in the set."
@@ -22,24 +22,24 @@ stands t g = best (pattern t g)
 
 -- "The trigger fires when every state stands at some node", of any marks; 02, Job 5, "demands a node only of states reached from State One"
 unfoldable pub fires : Trigger → Graph → Marks → Bool
-fires t g m = all_below (states t) (λ u. not (reached t u) || anyBelow (nodes g) (m u))
+fires t g m = all_below (states t) (λ u. not (reached t u) || any_below (nodes g) (m u))
 
 -- 02, Job 5, "the trigger cut down to its reached states": these in ascending order, by index, and what the state at j there is in t
 unfoldable pub kept : Trigger → List ℕ
 kept t = list_of (states t) (reached t)
 
-abbrev pub stateAt : Trigger → ℕ → ℕ
-stateAt t j = get_or (kept t) j 0
+abbrev pub state_at : Trigger → ℕ → ℕ
+state_at t j = get_or (kept t) j 0
 
 -- a trigger of these states alone, numbered anew
 unfoldable pub cut : Trigger → Trigger
 cut t =
     let n = length (kept t) in
     record {
-      masks = table n (λ j. get_or t.masks (stateAt t j) 0);
-      values = table n (λ j. get_or t.values (stateAt t j) 0);
-      links = table n (λ j. word n (λ i. linked t (stateAt t j) (stateAt t i)));
-      inverted = word n (λ j. members t.inverted (stateAt t j));
+      masks = table n (λ j. get_or t.masks (state_at t j) 0);
+      values = table n (λ j. get_or t.values (state_at t j) 0);
+      links = table n (λ j. word n (λ i. linked t (state_at t j) (state_at t i)));
+      inverted = word n (λ j. members t.inverted (state_at t j));
     }
 
 -- Document 000's match relation: a simulation in which every state has a node; and the pairs of its largest one, none where there is none.
@@ -54,23 +54,23 @@ Matched t g u v = (X : Marks) × Match t g (λ u v. X u v ≡ true) × (X u v �
 -- and graph.
 pub record Compared (t : Trigger) (g : Graph) : Type 0 where
   -- it is a trigger that may be loaded
-  pub valid : validTrigger t ≡ true → validTrigger (cut t) ≡ true
+  pub valid : valid_trigger t ≡ true → valid_trigger (cut t) ≡ true
   -- its states are those reached, each once, and there too each is reached
-  pub all : (u : ℕ) → Reached t u ↔ ((j : ℕ) × (j < states (cut t)) × (stateAt t j ≡ u))
-  pub once : (i j : ℕ) → i < j → j < states (cut t) → stateAt t i < stateAt t j
+  pub all : (u : ℕ) → Reached t u ↔ ((j : ℕ) × (j < states (cut t)) × (state_at t j ≡ u))
+  pub once : (i j : ℕ) → i < j → j < states (cut t) → state_at t i < state_at t j
   pub again : (j : ℕ) → j < states (cut t) → Reached (cut t) j
   -- "cutting alters no mark of a reached state"
-  pub marks : (j v : ℕ) → j < states (cut t) → stands (cut t) g j v ≡ stands t g (stateAt t j) v
+  pub marks : (j v : ℕ) → j < states (cut t) → stands (cut t) g j v ≡ stands t g (state_at t j) v
   -- the trigger fires exactly when 000's relation is not empty, and then that relation is the marks of the reached states
   pub firing : 0 < states t → (fires t g (stands t g) ≡ true) ↔ ((j : ℕ) × (v : ℕ) × Matched (cut t) g j v)
-  pub relation : fires t g (stands t g) ≡ true → (j v : ℕ) → j < states (cut t) → Matched (cut t) g j v ↔ (stands t g (stateAt t j) v ≡ true)
+  pub relation : fires t g (stands t g) ≡ true → (j v : ℕ) → j < states (cut t) → Matched (cut t) g j v ↔ (stands t g (state_at t j) v ≡ true)
 
 -- how many pairs of the trigger and the graph are in the set
 abbrev pub size : Trigger → Graph → Set → ℕ
 size t g X = count (nodes g * states t) X
 
-abbrev pub pairsOf : Trigger → Graph → Marks → Set
-pairsOf t g m = paired (pattern t g) m
+abbrev pub pairs_of : Trigger → Graph → Marks → Set
+pairs_of t g m = paired (pattern t g) m
 
 -- "admitted but not standing before"
 abbrev pub fresh : Trigger → Graph → Marks → Marks
@@ -85,7 +85,7 @@ pub record Tried (t : Trigger) (g : Graph) (m : Marks) (a b : ℕ) (R : ℕ → 
       → R u' w' → R u w
 
 -- "the least set of pairs": a set of pairs of the trigger and the graph. That it has both clauses and lies in every such R is proved in proofs/Trials.
-unfoldable pub trialSet : Trigger → Graph → Marks → ℕ → ℕ → Set
-trialSet t g m a b =
-    closure (system (pattern t g)) (pairsOf t g (fresh t g m))
-    (pairsOf t g (λ u v. eqb v a && anyBelow (states t) (λ u'. linked t u u' && admits t g u' b)))
+unfoldable pub trial_set : Trigger → Graph → Marks → ℕ → ℕ → Set
+trial_set t g m a b =
+    closure (system (pattern t g)) (pairs_of t g (fresh t g m))
+    (pairs_of t g (λ u v. eqb v a && any_below (states t) (λ u'. linked t u u' && admits t g u' b)))

@@ -1,6 +1,6 @@
 // The questions: what the marks that the session holds say, and the depth-first order.
 ghost use Rattle.std.specs.Prelude.{◌≡◌, []};
-ghost use Rattle.promises.specs.Rules.{questionRules, pairRules, verdict};
+ghost use Rattle.promises.specs.Rules.{question_rules, pair_rules, verdict};
 ghost use Rattle.promises.specs.Promises.{Matches, Fires, Ordered};
 
 use promises::{Firing, FiringAnswer, OrderAnswer, Standing, StateOrder};
@@ -11,7 +11,7 @@ use walk_order::ordered;
 
 // The number of the first rule that a question breaks which names no state, and 0 where it breaks none.
 pub fn question_rule(session: &[u32]) -> u8
-    ensures { result ≡ verdict (questionRules session.now []) }
+    ensures { result ≡ verdict (question_rules session.now []) }
 {
     if session.len() < session::FIXED_SIZE {
         return 3;
@@ -24,7 +24,7 @@ pub fn question_rule(session: &[u32]) -> u8
 
 // The same of a question that names a state by its number, and a node.
 pub fn pair_rule(session: &[u32], state: u32, node: u32) -> u8
-    ensures { result ≡ verdict (pairRules session.now state node) }
+    ensures { result ≡ verdict (pair_rules session.now state node) }
 {
     let broken = question_rule(session);
     if broken != 0 {

@@ -11,43 +11,43 @@ use lib.ListN.{length, get_or}
 use borrow.Author.Tests.{ltb-true, lt-ltb, eqb-true, eq-eqb}
 use Rattle.simulation.specs.Sets.{Set, all_below, minus}
 use Rattle.simulation.specs.Search.{found}
-use Rattle.simulation.proofs.Sets.{clash, split, same, refuted, and-make, and_l, and_r, not-make, not-take, implies-make, implies-take, any-make, any-take, all-make, all_take}
-use Rattle.simulation.proofs.Search.{found_here, found-on, found-end}
-use Rattle.bits.specs.Word.{members, overlaps, setBits}
+use Rattle.simulation.proofs.Sets.{clash, split, same, refuted, and_make, and_l, and_r, not_make, not-take, implies_make, implies_take, any_make, any_take, all_make, all_take}
+use Rattle.simulation.proofs.Search.{found_here, found_on, found-end}
+use Rattle.bits.specs.Word.{members, overlaps, set_bits}
 use Rattle.bits.proofs.Words.{zero-members, same-members, or-members}
 use Rattle.pair_tables.specs.Tables.{marked}
-use Rattle.links.specs.Links.{linkedFrom, linksTo}
-use Rattle.refinement.specs.Refining.{carried, whole, keptOf, unmetOf}
+use Rattle.links.specs.Links.{linked_from, links_to}
+use Rattle.refinement.specs.Refining.{carried, whole, kept_of, unmet_of}
 use Rattle.links.proofs.LinkSets.{links-none}
-use Rattle.session.specs.Limits.{maxNodes}
+use Rattle.session.specs.Limits.{max_nodes}
 
 module _ (es ss ts : List ℕ) where
   -- ---- a carrier of one link, among the edges from k on
 
   -- the edge k carries a link to o
   abbrev carrier : ℕ → Set
-  carrier o k = marked ss o (get_or es k 0 % maxNodes) || marked ts o (get_or es k 0 % maxNodes)
+  carrier o k = marked ss o (get_or es k 0 % max_nodes) || marked ts o (get_or es k 0 % max_nodes)
 
-  abbrev pub carriedFrom : ℕ → ℕ → Bool
-  carriedFrom o k = found (carrier o) k (length es)
+  abbrev pub carries_from : ℕ → ℕ → Bool
+  carries_from o k = found (carrier o) k (length es)
 
   abbrev both : ℕ → ℕ
-  both k = bit_or (get_or ss (get_or es k 0 % maxNodes) 0) (get_or ts (get_or es k 0 % maxNodes) 0)
+  both k = bit_or (get_or ss (get_or es k 0 % max_nodes) 0) (get_or ts (get_or es k 0 % max_nodes) 0)
 
   seen : (o k : ℕ) → members (both k) o ≡ carrier o k
-  seen o k = ap (λ (X : Set). X o) (or-members (get_or ss (get_or es k 0 % maxNodes) 0) (get_or ts (get_or es k 0 % maxNodes) 0))
+  seen o k = ap (λ (X : Set). X o) (or-members (get_or ss (get_or es k 0 % max_nodes) 0) (get_or ts (get_or es k 0 % max_nodes) 0))
 
-  pub carried_from : (o : ℕ) → carried es ss ts o ≡ carriedFrom o 0
+  pub carried_from : (o : ℕ) → carried es ss ts o ≡ carries_from o 0
   unfolding carried
   carried_from o = refl
 
-  pub carried_here : (o k : ℕ) → k < length es → members (both k) o ≡ true → carriedFrom o k ≡ true
+  pub carried_here : (o k : ℕ) → k < length es → members (both k) o ≡ true → carries_from o k ≡ true
   carried_here o k l e = found_here (carrier o) k (length es) l (sym (seen o k) ∙ e)
 
-  pub carried_on : (o k : ℕ) → k < length es → members (both k) o ≡ false → carriedFrom o k ≡ carriedFrom o (k + 1)
-  carried_on o k l e = found-on (carrier o) k (length es) l (sym (seen o k) ∙ e)
+  pub carried_on : (o k : ℕ) → k < length es → members (both k) o ≡ false → carries_from o k ≡ carries_from o (k + 1)
+  carried_on o k l e = found_on (carrier o) k (length es) l (sym (seen o k) ∙ e)
 
-  pub carried-end : (o k : ℕ) → length es ≤ k → carriedFrom o k ≡ false
+  pub carried-end : (o k : ℕ) → length es ≤ k → carries_from o k ≡ false
   carried-end o k l = found-end (carrier o) k (length es) l
 
 -- ---- the links of a set without a carrier: before the edge k, those of the edges below it are struck off
@@ -57,10 +57,10 @@ module _ (set : ℕ) (es ss ts : List ℕ) where
     pub inside : k ≤ length es
     pub among : (o : ℕ) → members rest o ≡ true → members set o ≡ true
     pub struck : (o : ℕ) → members set o ≡ true → members rest o ≡ false → carried es ss ts o ≡ true
-    pub unseen : (o : ℕ) → members rest o ≡ true → carried es ss ts o ≡ carriedFrom es ss ts o k
+    pub unseen : (o : ℕ) → members rest o ≡ true → carried es ss ts o ≡ carries_from es ss ts o k
 
-  pub searching-none : Searching set 0
-  searching-none = record {
+  pub searching_none : Searching set 0
+  searching_none = record {
     inside = zero-le;
     among = λ o m. m;
     struck = λ o m e. clash m e;
@@ -68,10 +68,10 @@ module _ (set : ℕ) (es ss ts : List ℕ) where
   }
 
   module _ (rest k : ℕ) (r : Searching rest k) where
-    pub searching-more : k < length es → (rest' : ℕ)
-        → members rest' ≡ minus (members rest) (members (bit_or (get_or ss (get_or es k 0 % maxNodes) 0) (get_or ts (get_or es k 0 % maxNodes) 0)))
+    pub searching_more : k < length es → (rest' : ℕ)
+        → members rest' ≡ minus (members rest) (members (bit_or (get_or ss (get_or es k 0 % max_nodes) 0) (get_or ts (get_or es k 0 % max_nodes) 0)))
         → Searching rest' (k + 1)
-    searching-more l rest' e =
+    searching_more l rest' e =
         record {
           inside = omega (arith, l);
           among = λ o m. r.among o (and_l (members rest o) (not (members here o)) (sym (at o) ∙ m));
@@ -80,7 +80,7 @@ module _ (set : ℕ) (es ss ts : List ℕ) where
               (λ was.
               ⊎_elim
               (λ h. r.unseen o was ∙ carried_here es ss ts o k l h)
-              (λ h. clash (at o ∙ and-make was (not-make h)) off)
+              (λ h. clash (at o ∙ and_make was (not_make h)) off)
               (split (members here o)))
               (λ was. r.struck o m was)
               (split (members rest o));
@@ -91,7 +91,7 @@ module _ (set : ℕ) (es ss ts : List ℕ) where
         }
       where
         here : ℕ
-        here = bit_or (get_or ss (get_or es k 0 % maxNodes) 0) (get_or ts (get_or es k 0 % maxNodes) 0)
+        here = bit_or (get_or ss (get_or es k 0 % max_nodes) 0) (get_or ts (get_or es k 0 % max_nodes) 0)
 
         at : (o : ℕ) → members rest' o ≡ (members rest o && not (members here o))
         at o = ap (λ (X : Set). X o) e
@@ -100,7 +100,7 @@ module _ (set : ℕ) (es ss ts : List ℕ) where
     ended : ((o : ℕ) → members rest o ≡ true → carried es ss ts o ≡ false) → (o : ℕ) → members rest o ≡ (members set o && not (carried es ss ts o))
     ended none o =
         ⊎_elim
-        (λ m. m ∙ sym (and-make (r.among o m) (not-make (none o m))))
+        (λ m. m ∙ sym (and_make (r.among o m) (not_make (none o m))))
         (λ m.
         m
         ∙ sym
@@ -110,71 +110,71 @@ module _ (set : ℕ) (es ss ts : List ℕ) where
         (not-take (carried es ss ts o) (and_r (members set o) (not (carried es ss ts o)) h)))))
         (split (members rest o))
 
-    pub searching-end : length es ≤ k → (o : ℕ) → members rest o ≡ (members set o && not (carried es ss ts o))
-    searching-end l = ended (λ o m. r.unseen o m ∙ carried-end es ss ts o k l)
+    pub searching_end : length es ≤ k → (o : ℕ) → members rest o ≡ (members set o && not (carried es ss ts o))
+    searching_end l = ended (λ o m. r.unseen o m ∙ carried-end es ss ts o k l)
 
-    pub searching-done : rest ≡ 0 → (o : ℕ) → members rest o ≡ (members set o && not (carried es ss ts o))
-    searching-done e = ended (λ o m. clash m (ap (λ (w : ℕ). members w o) e ∙ zero-members o))
+    pub searching_done : rest ≡ 0 → (o : ℕ) → members rest o ≡ (members set o && not (carried es ss ts o))
+    searching_done e = ended (λ o m. clash m (ap (λ (w : ℕ). members w o) e ∙ zero-members o))
 
 -- ---- what a word keeps: the states without a link to one that is missing
 
-module _ (word : ℕ) (links es ss ts : List ℕ) (missing : ℕ) (lacks : members missing ≡ unmetOf word links es ss ts) where
+module _ (word : ℕ) (links es ss ts : List ℕ) (missing : ℕ) (lacks : members missing ≡ unmet_of word links es ss ts) where
   abbrev n : ℕ
   n = length links
 
   -- a state of the word is whole where none of its links is missing
-  whole-missing : (u : ℕ) → u < n → members word u ≡ true → n ≤ setBits → whole n (get_or links u 0) es ss ts ≡ not (overlaps (get_or links u 0) missing)
+  whole_missing : (u : ℕ) → u < n → members word u ≡ true → n ≤ set_bits → whole n (get_or links u 0) es ss ts ≡ not (overlaps (get_or links u 0) missing)
   unfolding whole
-  whole-missing u l m few =
+  whole_missing u l m few =
       same (whole n (get_or links u 0) es ss ts) (not (overlaps (get_or links u 0) missing))
       (λ h.
-      not-make
+      not_make
       (refuted (overlaps (get_or links u 0) missing)
       (λ k.
-      let r = any-take setBits (λ o. members (get_or links u 0) o && members missing o) k in
+      let r = any_take set_bits (λ o. members (get_or links u 0) o && members missing o) k in
       let o = r.0 in
       let link = and_l (members (get_or links u 0) o) (members missing o) r.2 in
-      let due = linkedFrom links word o && ltb o n in
+      let due = linked_from links word o && ltb o n in
       let lost = sym (ap (λ (X : Set). X o) lacks) ∙ and_r (members (get_or links u 0) o) (members missing o) r.2 in
-      let small = ltb-true o n (and_r (linkedFrom links word o) (ltb o n) (and_l due (not (carried es ss ts o)) lost)) in
+      let small = ltb-true o n (and_r (linked_from links word o) (ltb o n) (and_l due (not (carried es ss ts o)) lost)) in
       clash
-      (implies-take (members (get_or links u 0) o) (carried es ss ts o)
+      (implies_take (members (get_or links u 0) o) (carried es ss ts o)
       (all_take n (λ i. not (members (get_or links u 0) i) || carried es ss ts i) h o small) link)
       (not-take (carried es ss ts o) (and_r due (not (carried es ss ts o)) lost)))))
       (λ h.
-      all-make n (λ i. not (members (get_or links u 0) i) || carried es ss ts i)
+      all_make n (λ i. not (members (get_or links u 0) i) || carried es ss ts i)
       (λ o small.
-      implies-make (members (get_or links u 0) o) (carried es ss ts o)
+      implies_make (members (get_or links u 0) o) (carried es ss ts o)
       (λ link.
       ⊎_elim (λ e. e)
       (λ e.
-      let due : (linkedFrom links word o && ltb o n) ≡ true =
-      and-make (any-make n (λ x. members word x && members (get_or links x 0) o) u l (and-make m link)) (lt-ltb o n small) in
+      let due : (linked_from links word o && ltb o n) ≡ true =
+      and_make (any_make n (λ x. members word x && members (get_or links x 0) o) u l (and_make m link)) (lt-ltb o n small) in
       clash
-      (any-make setBits (λ i. members (get_or links u 0) i && members missing i) o (omega (arith, few, small))
-      (and-make link (ap (λ (X : Set). X o) lacks ∙ and-make due (not-make e))))
+      (any_make set_bits (λ i. members (get_or links u 0) i && members missing i) o (omega (arith, few, small))
+      (and_make link (ap (λ (X : Set). X o) lacks ∙ and_make due (not_make e))))
       (not-take (overlaps (get_or links u 0) missing) h))
       (split (carried es ss ts o)))))
 
-  pub kept-without : n ≤ setBits → minus (members word) (linksTo links missing) ≡ keptOf word links es ss ts
+  pub kept-without : n ≤ set_bits → minus (members word) (links_to links missing) ≡ kept_of word links es ss ts
   kept-without few = fun_ext (λ u. ⊎_elim (λ (m : members word u ≡ true). rw m (there u m)) (λ (m : members word u ≡ false). rw m refl) (split (members word u)))
     where
       there : (u : ℕ) → members word u ≡ true
           → not (ltb u n && overlaps (get_or links u 0) missing) ≡ (not (ltb u n) || whole n (get_or links u 0) es ss ts)
       there u m =
           ⊎_elim
-          (λ (e : ltb u n ≡ true). rw e (sym (whole-missing u (ltb-true u n e) m few)))
+          (λ (e : ltb u n ≡ true). rw e (sym (whole_missing u (ltb-true u n e) m few)))
           (λ (e : ltb u n ≡ false). rw e refl)
           (split (ltb u n))
 
   -- where none is missing the word stays
-  pub kept_whole : n ≤ setBits → missing ≡ 0 → members word ≡ keptOf word links es ss ts
+  pub kept_whole : n ≤ set_bits → missing ≡ 0 → members word ≡ kept_of word links es ss ts
   kept_whole few e =
-      fun_ext (λ u. sym (ap (λ (b : Bool). members word u && not b) (ap (λ (x : ℕ). linksTo links x u) e ∙ links-none setBits links u) ∙ and-true (members word u)))
+      fun_ext (λ u. sym (ap (λ (b : Bool). members word u && not b) (ap (λ (x : ℕ). links_to links x u) e ∙ links-none set_bits links u) ∙ and-true (members word u)))
       ∙ kept-without few
 
   -- none is missing just where each state of the word is whole
-  pub whole-met : n ≤ setBits → eqb missing 0 ≡ all_below (length links) (λ u. not (members word u) || whole (length links) (get_or links u 0) es ss ts)
+  pub whole-met : n ≤ set_bits → eqb missing 0 ≡ all_below (length links) (λ u. not (members word u) || whole (length links) (get_or links u 0) es ss ts)
   whole-met few = same (eqb missing 0) (all_below n whole_at) there back
     where
       whole_at : Set
@@ -182,15 +182,15 @@ module _ (word : ℕ) (links es ss ts : List ℕ) (missing : ℕ) (lacks : membe
 
       there : eqb missing 0 ≡ true → all_below n whole_at ≡ true
       there e =
-          all-make n whole_at
+          all_make n whole_at
           (λ u l.
-          implies-make (members word u) (whole n (get_or links u 0) es ss ts)
+          implies_make (members word u) (whole n (get_or links u 0) es ss ts)
           (λ m.
-          whole-missing u l m few
-          ∙ not-make
+          whole_missing u l m few
+          ∙ not_make
           (refuted (overlaps (get_or links u 0) missing)
           (λ k.
-          let r = any-take setBits (λ o. members (get_or links u 0) o && members missing o) k in
+          let r = any_take set_bits (λ o. members (get_or links u 0) o && members missing o) k in
           clash (and_r (members (get_or links u 0) r.0) (members missing r.0) r.2)
           (ap (λ (w : ℕ). members w r.0) (eqb-true missing 0 e) ∙ zero-members r.0)))))
 
@@ -202,16 +202,16 @@ module _ (word : ℕ) (links es ss ts : List ℕ) (missing : ℕ) (lacks : membe
           (λ o.
           refuted (members missing o)
           (λ m.
-          let due = linkedFrom links word o && ltb o n in
+          let due = linked_from links word o && ltb o n in
           let lost = and_l due (not (carried es ss ts o)) (sym (ap (λ (X : Set). X o) lacks) ∙ m) in
-          let small = ltb-true o n (and_r (linkedFrom links word o) (ltb o n) lost) in
-          let r = any-take n (λ u. members word u && members (get_or links u 0) o) (and_l (linkedFrom links word o) (ltb o n) lost) in
+          let small = ltb-true o n (and_r (linked_from links word o) (ltb o n) lost) in
+          let r = any_take n (λ u. members word u && members (get_or links u 0) o) (and_l (linked_from links word o) (ltb o n) lost) in
           let u = r.0 in
           let in-word = and_l (members word u) (members (get_or links u 0) o) r.2 in
           let link = and_r (members word u) (members (get_or links u 0) o) r.2 in
           clash
-          (any-make setBits (λ i. members (get_or links u 0) i && members missing i) o (omega (arith, few, small)) (and-make link m))
+          (any_make set_bits (λ i. members (get_or links u 0) i && members missing i) o (omega (arith, few, small)) (and_make link m))
           (not-take (overlaps (get_or links u 0) missing)
-          (sym (whole-missing u r.1 in-word few)
-          ∙ implies-take (members word u) (whole n (get_or links u 0) es ss ts) (all_take n whole_at h u r.1) in-word)))
+          (sym (whole_missing u r.1 in-word few)
+          ∙ implies_take (members word u) (whole n (get_or links u 0) es ss ts) (all_take n whole_at h u r.1) in-word)))
           ∙ sym (zero-members o))))

@@ -7,47 +7,47 @@ use mathlib.Core.Path.{fun_ext}
 use mathlib.Core.List.{List}
 use lib.ListN.{length, get_or, set, length-set}
 use lib.Seq.{get_or-set_same, get_or-set_other}
-use Rattle.simulation.specs.Sets.{Set, minus, without, anyBelow}
-use Rattle.simulation.proofs.Sets.{clash, refuted, and_none, any-take}
-use Rattle.bits.specs.Word.{members, overlaps, setBits}
+use Rattle.simulation.specs.Sets.{Set, minus, without, any_below}
+use Rattle.simulation.proofs.Sets.{clash, refuted, and_none, any_take}
+use Rattle.bits.specs.Word.{members, overlaps, set_bits}
 use Rattle.bits.proofs.Words.{zero-members}
-use Rattle.session.specs.Limits.{maxNodes, edgeNumbers}
+use Rattle.session.specs.Limits.{max_nodes, edge_numbers}
 use Rattle.session.specs.Layout.{below}
-use Rattle.session.proofs.Tables.{below-make}
-use Rattle.links.specs.Links.{linksTo}
-use Rattle.refinement.specs.Refining.{keptOf, Sound, Turned}
-use Rattle.edge_indexes.specs.Indexes.{edgesFrom, predecessors}
+use Rattle.session.proofs.Tables.{below_make}
+use Rattle.links.specs.Links.{links_to}
+use Rattle.refinement.specs.Refining.{kept_of, Sound, Turned}
+use Rattle.edge_indexes.specs.Indexes.{edges_from, predecessors}
 use Rattle.worklist.specs.Waiting.{waits}
 use Rattle.links.proofs.LinkSets.{links-none}
 
 -- edges between nodes are small numbers
-pub sound-below : (nodes : ℕ) (links es : List ℕ) → Sound nodes links es → below edgeNumbers es ≡ true
-sound-below nodes links es s = below-make edgeNumbers es (λ k l. omega (arith, s.starts k l, s.few-nodes))
+pub sound_below : (nodes : ℕ) (links es : List ℕ) → Sound nodes links es → below edge_numbers es ≡ true
+sound_below nodes links es s = below_make edge_numbers es (λ k l. omega (arith, s.starts k l, s.few_nodes))
 
 -- a sound list is sound for all the nodes there may be
-pub sound-wider : (nodes : ℕ) (links es : List ℕ) → Sound nodes links es → Sound maxNodes links es
-sound-wider nodes links es s = record {
-  some-state = s.some-state;
-  few-states = s.few-states;
-  few-nodes = omega arith;
-  few-edges = s.few-edges;
+pub sound_wider : (nodes : ℕ) (links es : List ℕ) → Sound nodes links es → Sound max_nodes links es
+sound_wider nodes links es s = record {
+  some_state = s.some_state;
+  few_states = s.few_states;
+  few_nodes = omega arith;
+  few_edges = s.few_edges;
   ascend = s.ascend;
-  starts = λ k l. omega (arith, s.starts k l, s.few-nodes);
-  ends = λ k l. omega (arith, s.ends k l, s.few-nodes);
+  starts = λ k l. omega (arith, s.starts k l, s.few_nodes);
+  ends = λ k l. omega (arith, s.ends k l, s.few_nodes);
 }
 
 module _ (links es ss ts ws : List ℕ) (v : ℕ) (inside : v < length ts) (ws₁ : List ℕ) (long : length ws₁ ≡ length ws)
-    (out : waits ws₁ ≡ without (waits ws) v) (left : ℕ) (kept : members left ≡ keptOf (get_or ts v 0) links (edgesFrom es v) ss ts) where
+    (out : waits ws₁ ≡ without (waits ws) v) (left : ℕ) (kept : members left ≡ kept_of (get_or ts v 0) links (edges_from es v) ss ts) where
   -- pairs were cleared, and the predecessors that hold a state with a link to one that went are called in
-  pub turned-cleared : (ws' : List ℕ) (gone shaken : ℕ) → length ws' ≡ length ws → members gone ≡ minus (members (get_or ts v 0)) (members left)
-      → members shaken ≡ linksTo links gone
+  pub turned_cleared : (ws' : List ℕ) (gone shaken : ℕ) → length ws' ≡ length ws → members gone ≡ minus (members (get_or ts v 0)) (members left)
+      → members shaken ≡ links_to links gone
       → waits ws' ≡ (λ w. waits ws₁ w || (predecessors es v w && overlaps (get_or (set ts v left) w 0) shaken))
       → Turned links es ss ts ws v (set ts v left) ws'
-  turned-cleared ws' gone shaken long' lost shakes called =
+  turned_cleared ws' gone shaken long' lost shakes called =
       let here : get_or (set ts v left) v 0 ≡ left = get_or-set_same ts v left 0 inside in
       record {
-        table-long = length-set ts v left;
-        waits-long = long';
+        table_long = length-set ts v left;
+        waits_long = long';
         others = λ w away. get_or-set_other ts v w left 0 away;
         here = ap members here ∙ kept;
         gone = gone;
@@ -56,14 +56,14 @@ module _ (links es ss ts ws : List ℕ) (v : ℕ) (inside : v < length ts) (ws�
             ∙ fun_ext
             (λ w.
             ap (λ (X : Set). X w || (predecessors es v w && overlaps (get_or (set ts v left) w 0) shaken)) out
-            ∙ ap (λ (Y : Set). without (waits ws) v w || (predecessors es v w && anyBelow setBits (λ u. members (get_or (set ts v left) w 0) u && Y u))) shakes);
+            ∙ ap (λ (Y : Set). without (waits ws) v w || (predecessors es v w && any_below set_bits (λ u. members (get_or (set ts v left) w 0) u && Y u))) shakes);
       }
 
   -- nothing was cleared
-  pub turned-stayed : left ≡ get_or ts v 0 → Turned links es ss ts ws v ts ws₁
-  turned-stayed e = record {
-    table-long = refl;
-    waits-long = long;
+  pub turned_stayed : left ≡ get_or ts v 0 → Turned links es ss ts ws v ts ws₁
+  turned_stayed e = record {
+    table_long = refl;
+    waits_long = long;
     others = λ w away. refl;
     here = ap members (sym e) ∙ kept;
     gone = 0;
@@ -73,10 +73,10 @@ module _ (links es ss ts ws : List ℕ) (v : ℕ) (inside : v < length ts) (ws�
         (λ w.
         sym
         (ap (λ (b : Bool). without (waits ws) v w || b)
-        (ap (λ (X : Set). predecessors es v w && anyBelow setBits X) (fun_ext (λ u. and_none (members (get_or ts w 0) u) (links-none setBits links u)))
-        ∙ and_none (predecessors es v w) (any_none setBits))
+        (ap (λ (X : Set). predecessors es v w && any_below set_bits X) (fun_ext (λ u. and_none (members (get_or ts w 0) u) (links-none set_bits links u)))
+        ∙ and_none (predecessors es v w) (any_none set_bits))
         ∙ or-false (without (waits ws) v w)));
   }
     where
-      any_none : (k : ℕ) → anyBelow k (λ u. false) ≡ false
-      any_none k = refuted (anyBelow k (λ u. false)) (λ h. clash (any-take k (λ u. false) h).2 refl)
+      any_none : (k : ℕ) → any_below k (λ u. false) ≡ false
+      any_none k = refuted (any_below k (λ u. false)) (λ h. clash (any_take k (λ u. false) h).2 refl)

@@ -1,13 +1,13 @@
 // Refinement: tentative pairs that the settled and the tentative pairs do not support are cleared, node by node, until none is left.
 ghost use Rattle.std.specs.Prelude.{◌≡◌, true, not, ◌&&◌, ℕ, ◌<◌, ◌≤◌, length, get_or};
-ghost use Rattle.bits.specs.Word.{members, setBits};
+ghost use Rattle.bits.specs.Word.{members, set_bits};
 ghost use Rattle.simulation.specs.Ordered.{ascends};
-ghost use Rattle.session.specs.Limits.{maxEdges, maxNodes};
+ghost use Rattle.session.specs.Limits.{max_edges, max_nodes};
 ghost use Rattle.pair_tables.specs.Tables.{marked};
-ghost use Rattle.refinement.specs.Refining.{carried, keptOf, unmetOf, Sound, Turned, Refining, Settled};
-ghost use Rattle.edge_indexes.specs.Indexes.{edgesFrom, Started, Indexed};
+ghost use Rattle.refinement.specs.Refining.{carried, kept_of, unmet_of, Sound, Turned, Refining, Settled};
+ghost use Rattle.edge_indexes.specs.Indexes.{edges_from, Started, Indexed};
 ghost use Rattle.links.specs.Links.{Callers};
-ghost use Rattle.worklist.specs.Waiting.{waitingWords};
+ghost use Rattle.worklist.specs.Waiting.{waiting_words};
 
 use edge_indexes::{STARTS, edges_at, index, index_starts};
 use links::{CALLERS, calling, index_callers, linked, linking, unlinked};
@@ -16,7 +16,7 @@ use worklist::{call_in, lowest_in, take_out};
 // The links of the set without a carrier among the edges of a node. The search for one ends at the first found, and an edge is looked at once: it
 // strikes off every link that it carries.
 pub fn missing(set: u32, edges: &[u32], settled: &[u32], tentative: &[u32]) -> u32
-    requires { (length settled.now ≡ maxNodes) × (length tentative.now ≡ maxNodes) }
+    requires { (length settled.now ≡ max_nodes) × (length tentative.now ≡ max_nodes) }
     ensures { (o : ℕ) → members result o ≡ (members set o && not (carried edges.now settled.now tentative.now o)) }
 {
     let mut rest = set;
@@ -41,8 +41,8 @@ pub fn missing(set: u32, edges: &[u32], settled: &[u32], tentative: &[u32]) -> u
 
 // The states to which the word has links, and to which no edge of a node leads.
 pub fn unmet(word: u32, links: &[u32], edges: &[u32], settled: &[u32], tentative: &[u32]) -> u32
-    requires { (length links.now ≤ setBits) × (length settled.now ≡ maxNodes) × (length tentative.now ≡ maxNodes) }
-    ensures { members result ≡ unmetOf word links.now edges.now settled.now tentative.now }
+    requires { (length links.now ≤ set_bits) × (length settled.now ≡ max_nodes) × (length tentative.now ≡ max_nodes) }
+    ensures { members result ≡ unmet_of word links.now edges.now settled.now tentative.now }
 {
     let needed = linked(links, word) & bits::below(links.len() as u32);
     missing(needed, edges, settled, tentative)
@@ -50,8 +50,8 @@ pub fn unmet(word: u32, links: &[u32], edges: &[u32], settled: &[u32], tentative
 
 // The states of the word that keep their support at a node with these edges: those without a link that is not met.
 pub fn kept(word: u32, links: &[u32], edges: &[u32], settled: &[u32], tentative: &[u32]) -> u32
-    requires { (length links.now ≤ setBits) × (length settled.now ≡ maxNodes) × (length tentative.now ≡ maxNodes) }
-    ensures { members result ≡ keptOf word links.now edges.now settled.now tentative.now }
+    requires { (length links.now ≤ set_bits) × (length settled.now ≡ max_nodes) × (length tentative.now ≡ max_nodes) }
+    ensures { members result ≡ kept_of word links.now edges.now settled.now tentative.now }
 {
     let lacking = unmet(word, links, edges, settled, tentative);
     if lacking == 0 {
@@ -72,9 +72,9 @@ pub fn left_at(
     tentative: &[u32],
     v: usize,
 ) -> u32
-    requires settled_len { (length settled.now ≡ maxNodes) × (length tentative.now ≡ maxNodes) × (v < maxNodes) × (length links.now ≤ setBits) }
-    requires edges_value { (ascends edges.now ≡ true) × (length edges.now ≤ maxEdges) × ((length firsts.now ≡ 0 → ⊥) → Started edges.now firsts.now) }
-    ensures { members result ≡ keptOf (get_or tentative.now v 0) links.now (edgesFrom edges.now v) settled.now tentative.now }
+    requires settled_len { (length settled.now ≡ max_nodes) × (length tentative.now ≡ max_nodes) × (v < max_nodes) × (length links.now ≤ set_bits) }
+    requires edges_value { (ascends edges.now ≡ true) × (length edges.now ≤ max_edges) × ((length firsts.now ≡ 0 → ⊥) → Started edges.now firsts.now) }
+    ensures { members result ≡ kept_of (get_or tentative.now v 0) links.now (edges_from edges.now v) settled.now tentative.now }
 {
     let out = edges_at(edges, firsts, v);
     kept(tentative[v], links, out, settled, tentative)
@@ -93,8 +93,8 @@ pub fn turn(
     nexts: &[u32],
     v: usize,
 )
-    requires settled_len { (length settled.now ≡ maxNodes) × (length tentative.old ≡ maxNodes) × (length waiting.old ≡ waitingWords) × (v < maxNodes) }
-    requires sound { Sound maxNodes links.now edges.now × ((length firsts.now ≡ 0 → ⊥) → Started edges.now firsts.now) × ((length heads.now ≡ 0 → ⊥) → Indexed edges.now heads.now nexts.now) × ((length callers.now ≡ 0 → ⊥) → Callers links.now callers.now) }
+    requires settled_len { (length settled.now ≡ max_nodes) × (length tentative.old ≡ max_nodes) × (length waiting.old ≡ waiting_words) × (v < max_nodes) }
+    requires sound { Sound max_nodes links.now edges.now × ((length firsts.now ≡ 0 → ⊥) → Started edges.now firsts.now) × ((length heads.now ≡ 0 → ⊥) → Indexed edges.now heads.now nexts.now) × ((length callers.now ≡ 0 → ⊥) → Callers links.now callers.now) }
     ensures { Turned links.now edges.now settled.now tentative.old waiting.old v tentative.new waiting.new }
 {
     take_out(waiting, v);
@@ -124,7 +124,7 @@ pub fn refine(
     heads: &[u32],
     nexts: &[u32],
 ) -> usize
-    requires settled_len { (length settled.now ≡ maxNodes) × (length tentative.old ≡ maxNodes) × (length waiting.old ≡ waitingWords) }
+    requires settled_len { (length settled.now ≡ max_nodes) × (length tentative.old ≡ max_nodes) × (length waiting.old ≡ waiting_words) }
     requires sound { Sound nodes links.now edges.now × ((length firsts.now ≡ 0 → ⊥) → Started edges.now firsts.now) × ((length heads.now ≡ 0 → ⊥) → Indexed edges.now heads.now nexts.now) × ((length callers.now ≡ 0 → ⊥) → Callers links.now callers.now) }
     ensures { Refining nodes links.now edges.now settled.now tentative.old waiting.old tentative.new waiting.new result × ((length heads.now ≡ 0 → ⊥) → nodes ≤ result) }
 {
@@ -155,7 +155,7 @@ pub fn refine_indexed(
     tentative: &mut [u32],
     waiting: &mut [u32],
 )
-    requires settled_len { (length settled.now ≡ maxNodes) × (length tentative.old ≡ maxNodes) × (length waiting.old ≡ waitingWords) }
+    requires settled_len { (length settled.now ≡ max_nodes) × (length tentative.old ≡ max_nodes) × (length waiting.old ≡ waiting_words) }
     requires sound { Sound nodes links.now edges.now × ((u v : ℕ) → marked tentative.old u v ≡ true → v < nodes) }
     ensures { Settled nodes links.now edges.now settled.now tentative.old waiting.old tentative.new }
 {
@@ -180,7 +180,7 @@ pub fn refine_few(
     tentative: &mut [u32],
     waiting: &mut [u32],
 )
-    requires settled_len { (length settled.now ≡ maxNodes) × (length tentative.old ≡ maxNodes) × (length waiting.old ≡ waitingWords) }
+    requires settled_len { (length settled.now ≡ max_nodes) × (length tentative.old ≡ max_nodes) × (length waiting.old ≡ waiting_words) }
     requires sound { Sound nodes links.now edges.now × ((u v : ℕ) → marked tentative.old u v ≡ true → v < nodes) }
     ensures { Settled nodes links.now edges.now settled.now tentative.old waiting.old tentative.new }
 {

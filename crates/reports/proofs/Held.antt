@@ -1,5 +1,5 @@
 -- What the report of a call reads from a session in layout: firing, and the change list.
-use Rattle.session.specs.Limits.{marksAt, maxChanges, maxNodes}
+use Rattle.session.specs.Limits.{marks_at, max_changes, max_nodes}
 use Rattle.session.proofs.Tables.{part-from}
 use Prim.Native.Nat.{ℕ, ◌+◌, ◌-◌, ◌≤◌}
 use native.Mathlib.Nat.{mul-le-mul_left}
@@ -9,27 +9,27 @@ use mathlib.Core.Bool.{Bool, true, not, ◌||◌}
 use mathlib.Core.List.{List}
 use lib.ListN.{length, get_or, take, drop, length-take, length-drop}
 use lib.Seq.{length-take-le, get_or-take, take-take}
-use Rattle.simulation.specs.Sets.{Set, all_below, anyBelow}
+use Rattle.simulation.specs.Sets.{Set, all_below, any_below}
 use Rattle.simulation.proofs.Edges.{any_same, all_same}
 use Rattle.bits.specs.Word.{members}
 use Rattle.session.specs.Trigger.{Trigger, Graph, states, nodes}
-use Rattle.session.specs.Reached.{reached, linkedBy}
-use Rattle.session.specs.Layout.{triggerOf, graph_of, marksOf, inLayout}
+use Rattle.session.specs.Reached.{reached, linked_by}
+use Rattle.session.specs.Layout.{trigger_of, graph_of, marks_of, in_layout}
 use Rattle.session.proofs.Reached.{reached-same}
-use Rattle.session.proofs.Decoded.{LayoutFacts, layout-facts, layout-limits}
+use Rattle.session.proofs.Decoded.{LayoutFacts, layout-facts, layout_limits}
 use Rattle.pair_tables.specs.Tables.{marked}
 use Rattle.listing.specs.Changes.{changes}
-use Rattle.listing.specs.Placed.{tableChanges}
+use Rattle.listing.specs.Placed.{table_changes}
 use Rattle.listing.proofs.Placing.{table-short}
 use Rattle.promises.specs.Standing.{fires}
 use Rattle.session_parts.proofs.Parts.{held-marks}
 
-module _ (xs : List ℕ) (h : inLayout xs ≡ true) where
+module _ (xs : List ℕ) (h : in_layout xs ≡ true) where
   abbrev facts : LayoutFacts xs
   facts = layout-facts xs h
 
   abbrev t : Trigger
-  t = triggerOf xs
+  t = trigger_of xs
 
   abbrev g : Graph
   g = graph_of xs
@@ -38,53 +38,53 @@ module _ (xs : List ℕ) (h : inLayout xs ≡ true) where
 
   -- firing is read from the words of the nodes, and what is reached from the links
   pub held-fires : (ts : List ℕ) → get_or xs 1 0 ≤ length ts
-      → (let links = (triggerOf xs).links in
+      → (let links = (trigger_of xs).links in
       let marks = take (get_or xs 1 0) ts in
-      all_below (length links) (λ u. not (reached (linkedBy links) u) || anyBelow (length marks) (λ v. members (get_or marks v 0) u)))
-      ≡ fires (triggerOf xs) (graph_of xs) (marked ts)
+      all_below (length links) (λ u. not (reached (linked_by links) u) || any_below (length marks) (λ v. members (get_or marks v 0) u)))
+      ≡ fires (trigger_of xs) (graph_of xs) (marked ts)
   unfolding fires
   held-fires ts l =
       let m = get_or xs 1 0 in
       let links = t.links in
       let marks = take m ts in
       ap₂
-      (λ (k : ℕ) (X : Set). all_below k (λ u. not (X u) || anyBelow (length marks) (λ v. members (get_or marks v 0) u)))
+      (λ (k : ℕ) (X : Set). all_below k (λ u. not (X u) || any_below (length marks) (λ v. members (get_or marks v 0) u)))
       facts.trigger.links
-      (reached-same (linkedBy links) t facts.trigger.links refl)
-      ∙ all_same (states t) (λ u. not (reached t u) || anyBelow (length marks) (λ v. members (get_or marks v 0) u))
-      (λ u. not (reached t u) || anyBelow (nodes g) (λ v. members (get_or ts v 0) u))
+      (reached-same (linked_by links) t facts.trigger.links refl)
+      ∙ all_same (states t) (λ u. not (reached t u) || any_below (length marks) (λ v. members (get_or marks v 0) u))
+      (λ u. not (reached t u) || any_below (nodes g) (λ v. members (get_or ts v 0) u))
       (λ u i.
       ap (λ (b : Bool). not (reached t u) || b)
-      (ap (λ (k : ℕ). anyBelow k (λ v. members (get_or marks v 0) u)) (length-take-le m ts l)
+      (ap (λ (k : ℕ). any_below k (λ v. members (get_or marks v 0) u)) (length-take-le m ts l)
       ∙ any_same m (λ v. members (get_or marks v 0) u) (λ v. members (get_or ts v 0) u)
       (λ v k. ap (λ (w : ℕ). members w u) (get_or-take m ts v 0 k))
-      ∙ ap (λ (k : ℕ). anyBelow k (λ v. members (get_or ts v 0) u)) facts.counts.1))
+      ∙ ap (λ (k : ℕ). any_below k (λ v. members (get_or ts v 0) u)) facts.counts.1))
 
   -- the list between two tables is the change list
-  pub held-changes : (bs cs : List ℕ) → tableChanges (get_or xs 0 0) (get_or xs 1 0) bs cs ≡ changes (triggerOf xs) (graph_of xs) (marked bs) (marked cs)
-  unfolding changes tableChanges
+  pub held-changes : (bs cs : List ℕ) → table_changes (get_or xs 0 0) (get_or xs 1 0) bs cs ≡ changes (trigger_of xs) (graph_of xs) (marked bs) (marked cs)
+  unfolding changes table_changes
   held-changes bs cs = rw (facts.counts.0, facts.counts.1)
 
   -- a room that is long enough holds any list
-  pub held-few : (bs cs : List ℕ) → length (tableChanges (get_or xs 0 0) (get_or xs 1 0) bs cs) ≤ maxChanges
+  pub held-few : (bs cs : List ℕ) → length (table_changes (get_or xs 0 0) (get_or xs 1 0) bs cs) ≤ max_changes
   held-few bs cs =
-      let b = layout-limits xs h in
+      let b = layout_limits xs h in
       omega (
         arith,
         table-short (get_or xs 0 0) bs cs (get_or xs 1 0),
-        mul-le-mul_left (get_or xs 1 0) b.few-states,
-        b.few-nodes,
+        mul-le-mul_left (get_or xs 1 0) b.few_states,
+        b.few_nodes,
       )
 
   -- firing, as the mark words of the nodes tell it
-  pub held-firing : (let links = (triggerOf xs).links in
-      let marks = take (marksAt + get_or xs 1 0 - marksAt) (drop marksAt xs) in
-      all_below (length links) (λ u. not (reached (linkedBy links) u) || anyBelow (length marks) (λ v. members (get_or marks v 0) u)))
-      ≡ fires (triggerOf xs) (graph_of xs) (marksOf xs)
+  pub held-firing : (let links = (trigger_of xs).links in
+      let marks = take (marks_at + get_or xs 1 0 - marks_at) (drop marks_at xs) in
+      all_below (length links) (λ u. not (reached (linked_by links) u) || any_below (length marks) (λ v. members (get_or marks v 0) u)))
+      ≡ fires (trigger_of xs) (graph_of xs) (marks_of xs)
   held-firing =
       let links = t.links in
       ap
-      (λ (ws : List ℕ). all_below (length links) (λ u. not (reached (linkedBy links) u) || anyBelow (length ws) (λ v. members (get_or ws v 0) u)))
-      (part-from xs marksAt (get_or xs 1 0) ∙ sym (take-take (get_or xs 1 0) maxNodes (drop marksAt xs) (layout-limits xs h).few-nodes))
-      ∙ held-fires (take maxNodes (drop marksAt xs)) (omega (arith, length-take maxNodes (drop marksAt xs), length-drop marksAt xs, layout-limits xs h))
+      (λ (ws : List ℕ). all_below (length links) (λ u. not (reached (linked_by links) u) || any_below (length ws) (λ v. members (get_or ws v 0) u)))
+      (part-from xs marks_at (get_or xs 1 0) ∙ sym (take-take (get_or xs 1 0) max_nodes (drop marks_at xs) (layout_limits xs h).few_nodes))
+      ∙ held-fires (take max_nodes (drop marks_at xs)) (omega (arith, length-take max_nodes (drop marks_at xs), length-drop marks_at xs, layout_limits xs h))
       ∙ ap (fires t g) (held-marks xs h)

@@ -1,13 +1,13 @@
 // What the calls share: rule 3 of a load and an edit, whether the trigger fires, the list handed back, and the report of a call.
 ghost use Rattle.std.specs.Prelude.{◌≡◌, not, ◌||◌, true, ltb, ◌<◌, ◌≤◌, length, get_or};
-ghost use Rattle.session.specs.Limits.{fixedSize, maxChanges, maxNodes};
-ghost use Rattle.simulation.specs.Sets.{all_below, anyBelow};
-ghost use Rattle.bits.specs.Word.{members, setBits};
-ghost use Rattle.session.specs.Reached.{reached, linkedBy};
-ghost use Rattle.session.specs.Layout.{triggerOf, graph_of, inLayout, marksOf};
+ghost use Rattle.session.specs.Limits.{fixed_size, max_changes, max_nodes};
+ghost use Rattle.simulation.specs.Sets.{all_below, any_below};
+ghost use Rattle.bits.specs.Word.{members, set_bits};
+ghost use Rattle.session.specs.Reached.{reached, linked_by};
+ghost use Rattle.session.specs.Layout.{trigger_of, graph_of, in_layout, marks_of};
 ghost use Rattle.pair_tables.specs.Tables.{marked};
 ghost use Rattle.promises.specs.Standing.{fires};
-ghost use Rattle.promises.specs.Answers.{firing, told, changesTold, handedBack};
+ghost use Rattle.promises.specs.Answers.{firing, told, changes_told, handed_back};
 ghost use Rattle.listing.specs.Changes.{changes};
 ghost use Rattle.promises.specs.Promises.{Reported};
 ghost use Rattle.reports.specs.Marks.{Tells};
@@ -18,15 +18,15 @@ use session_parts::links_of;
 
 // Rule 3: the memory or the room is too short.
 pub fn too_short(memory: usize, room: usize) -> bool
-    ensures { result ≡ (ltb memory fixedSize || ltb room maxChanges) }
+    ensures { result ≡ (ltb memory fixed_size || ltb room max_changes) }
 {
     memory < session::FIXED_SIZE || room < session::MAX_CHANGES
 }
 
 // Whether each state that these links reach from State One is marked in some word. No link is followed where every state is marked, or State One is not.
 pub fn reached_marked(words: &[u32], links: &[u32]) -> bool
-    requires { (0 < length links.now) × (length links.now ≤ setBits) }
-    ensures { result ≡ all_below (length links.now) (λ u. not (reached (linkedBy links.now) u) || anyBelow (length words.now) (λ v. members (get_or words.now v 0) u)) }
+    requires { (0 < length links.now) × (length links.now ≤ set_bits) }
+    ensures { result ≡ all_below (length links.now) (λ u. not (reached (linked_by links.now) u) || any_below (length words.now) (λ v. members (get_or words.now v 0) u)) }
 {
     let marked = bits::gathered(words);
     if bits::subset(bits::below(links.len() as u32), marked) {
@@ -40,8 +40,8 @@ pub fn reached_marked(words: &[u32], links: &[u32]) -> bool
 
 // Whether the trigger fires, by the marks that the session holds.
 pub fn fires_now(session: &[u32]) -> bool
-    requires { inLayout session.now ≡ true }
-    ensures { result ≡ fires (triggerOf session.now) (graph_of session.now) (marksOf session.now) }
+    requires { in_layout session.now ≡ true }
+    ensures { result ≡ fires (trigger_of session.now) (graph_of session.now) (marks_of session.now) }
 {
     let end = session::MARKS_AT + session[1] as usize;
     reached_marked(&session[session::MARKS_AT..end], links_of(session))
@@ -59,7 +59,7 @@ pub fn says(answer: Firing) -> bool
 
 // How many changes an answer tells of.
 pub fn changes_in(answer: Answer) -> u32
-    ensures { result ≡ changesTold (told answer) }
+    ensures { result ≡ changes_told (told answer) }
 {
     match answer {
         Answer::Accepted(report) => report.changes,
@@ -69,7 +69,7 @@ pub fn changes_in(answer: Answer) -> u32
 
 // The filled front of the room: nothing for a refused answer, or where the room is shorter than the answer's number of changes.
 pub fn changed_part(changes: &[i32], answer: Answer) -> &[i32]
-    ensures { result.now ≡ handedBack changes.now answer }
+    ensures { result.now ≡ handed_back changes.now answer }
 {
     let n = changes_in(answer) as usize;
     if n <= changes.len() {
@@ -81,7 +81,7 @@ pub fn changed_part(changes: &[i32], answer: Answer) -> &[i32]
 
 // The answer with these counts: firing is read from the marks that the session holds.
 pub fn answered(session: &[u32], trials: u32, changes: u32) -> Answer
-    requires { inLayout session.now ≡ true }
+    requires { in_layout session.now ≡ true }
     ensures { Tells session.now trials changes result }
 {
     if fires_now(session) {
@@ -101,8 +101,8 @@ pub fn answered(session: &[u32], trials: u32, changes: u32) -> Answer
 
 // Writes the changes from the marks of the table to those that the session holds, and makes the answer.
 pub fn report(session: &[u32], before: &[u32], trials: u32, room: &mut [i32]) -> Answer
-    requires { (inLayout session.now ≡ true) × (length before.now ≡ maxNodes) × (maxChanges ≤ length room.old) }
-    ensures { Reported (triggerOf session.now) (graph_of session.now) (marksOf session.now) trials (changes (triggerOf session.now) (graph_of session.now) (marked before.now) (marksOf session.now)) room.old result room.new }
+    requires { (in_layout session.now ≡ true) × (length before.now ≡ max_nodes) × (max_changes ≤ length room.old) }
+    ensures { Reported (trigger_of session.now) (graph_of session.now) (marks_of session.now) trials (changes (trigger_of session.now) (graph_of session.now) (marked before.now) (marks_of session.now)) room.old result room.new }
 {
     let states = session[0];
     let nodes = session[1] as usize;

@@ -10,33 +10,33 @@ use lib.ListN.{length, get_or}
 use borrow.Author.Tests.{lt-ltb, le-ltb, eqb-true, eqb-false}
 use Rattle.simulation.specs.Sets.{Set, all_below}
 use Rattle.simulation.specs.Ordered.{ascends}
-use Rattle.simulation.proofs.Sets.{clash, split, refuted, and_l, all-make, all_take, all_both}
+use Rattle.simulation.proofs.Sets.{clash, split, refuted, and_l, all_make, all_take, all_both}
 use Rattle.simulation.proofs.Ordered.{rising-take, ascending}
-use Rattle.session.specs.Tests.{allNamed}
-use Rattle.session.specs.Limits.{maxNodes}
+use Rattle.session.specs.Tests.{all_named}
+use Rattle.session.specs.Limits.{max_nodes}
 
 module _ (nodes : ℕ) (es : List ℕ) where
   abbrev starting : Set
-  starting k = ltb (get_or es k 0 / maxNodes) nodes
+  starting k = ltb (get_or es k 0 / max_nodes) nodes
 
   abbrev pub ending : Set
-  ending k = ltb (get_or es k 0 % maxNodes) nodes
+  ending k = ltb (get_or es k 0 % max_nodes) nodes
 
-  pub none_named : length es ≡ 0 → true ≡ allNamed nodes es
-  unfolding allNamed
-  none_named e = sym (all-make (length es) (λ k. starting k && ending k) (λ k l. absurd (omega (arith, e, l))))
+  pub none_named : length es ≡ 0 → true ≡ all_named nodes es
+  unfolding all_named
+  none_named e = sym (all_make (length es) (λ k. starting k && ending k) (λ k l. absurd (omega (arith, e, l))))
 
-  pub start-fails : (k : ℕ) → k < length es → nodes ≤ get_or es k 0 / maxNodes → false ≡ allNamed nodes es
-  unfolding allNamed
-  start-fails k l high =
+  pub start_fails : (k : ℕ) → k < length es → nodes ≤ get_or es k 0 / max_nodes → false ≡ all_named nodes es
+  unfolding all_named
+  start_fails k l high =
       sym
-      (refuted (allNamed nodes es)
-      (λ h. clash (and_l (starting k) (ending k) (all_take (length es) (λ j. starting j && ending j) h k l)) (le-ltb (get_or es k 0 / maxNodes) nodes high)))
+      (refuted (all_named nodes es)
+      (λ h. clash (and_l (starting k) (ending k) (all_take (length es) (λ j. starting j && ending j) h k l)) (le-ltb (get_or es k 0 / max_nodes) nodes high)))
 
   -- where the last start is a node, the ends decide
-  pub ends-decide : ascends es ≡ true → get_or es (length es - 1) 0 / maxNodes < nodes → all_below (length es) ending ≡ allNamed nodes es
-  unfolding allNamed
-  ends-decide up low =
+  pub ends_decide : ascends es ≡ true → get_or es (length es - 1) 0 / max_nodes < nodes → all_below (length es) ending ≡ all_named nodes es
+  unfolding all_named
+  ends_decide up low =
       ap (λ (b : Bool). b && all_below (length es) ending) (sym starts)
       ∙ sym (all_both (length es) starting ending)
     where
@@ -51,4 +51,4 @@ module _ (nodes : ℕ) (es : List ℕ) where
           (split (eqb k (length es - 1)))
 
       starts : all_below (length es) starting ≡ true
-      starts = all-make (length es) starting (λ k l. lt-ltb (get_or es k 0 / maxNodes) nodes (omega (arith, before_last k l, low)))
+      starts = all_make (length es) starting (λ k l. lt-ltb (get_or es k 0 / max_nodes) nodes (omega (arith, before_last k l, low)))

@@ -1,12 +1,12 @@
 // Tests of sections: the size of words, zeros where a section is unused, edges that ascend and name nodes, marks at admitted pairs alone.
 ghost use Rattle.std.specs.Prelude.{◌≡◌, Bool, true, ◌&&◌, not, cond, ℕ, ◌+◌, ◌-◌, ◌^◌, ◌≤◌, ◌<◌, eqb, length, get_or};
 ghost use Rattle.simulation.specs.Ordered.{ascends};
-ghost use Rattle.bits.specs.Word.{within, members, halfBits, setBits};
+ghost use Rattle.bits.specs.Word.{within, members, half_bits, set_bits};
 ghost use Rattle.session.specs.Layout.{below};
-ghost use Rattle.session.specs.Tests.{fits, allNamed, sparse};
+ghost use Rattle.session.specs.Tests.{fits, all_named, sparse};
 ghost use Rattle.std.specs.Int.Bits.{bit_and};
-ghost use Rattle.simulation.specs.Sets.{all_below, anyBelow};
-ghost use Rattle.session.specs.Limits.{maxNodes, wordBits};
+ghost use Rattle.simulation.specs.Sets.{all_below, any_below};
+ghost use Rattle.session.specs.Limits.{max_nodes, word_bits};
 ghost use Rattle.session.specs.Trigger.{matches, accepts};
 
 use bits::{ALL_HALF, HALF_BITS, chosen_half};
@@ -37,15 +37,15 @@ pub fn all_zero(words: &[u32]) -> bool
 
 // Whether the used words' union has k bits, and that of the others none.
 pub fn unions_fit(inside: u32, unused: u32, k: u32) -> bool
-    requires { k ≤ setBits }
-    ensures { result ≡ (within setBits inside (2 ^ k - 1) && eqb unused 0) }
+    requires { k ≤ set_bits }
+    ensures { result ≡ (within set_bits inside (2 ^ k - 1) && eqb unused 0) }
 {
     bits::subset(inside, bits::below(k)) && unused == 0
 }
 
 // Whether a section has words below 2 to the k in its used places, and zeros in the others.
 pub fn section_fits(place: &[u32], used: usize, k: u32) -> bool
-    requires { (used ≤ length place.now) × (k ≤ setBits) }
+    requires { (used ≤ length place.now) × (k ≤ set_bits) }
     ensures { result ≡ fits k used place.now }
 {
     let inside = bits::gathered(&place[..used]);
@@ -71,7 +71,7 @@ pub fn all_ascend(edges: &[u32]) -> bool
 // Whether each edge of an ascending list joins two of the nodes: the last start is the greatest, and the ends are folded.
 pub fn all_named(edges: &[u32], nodes: u32) -> bool
     requires { ascends edges.now ≡ true }
-    ensures { result ≡ allNamed nodes edges.now }
+    ensures { result ≡ all_named nodes edges.now }
 {
     let count = edges.len();
     if count == 0 {
@@ -94,9 +94,9 @@ pub fn all_named(edges: &[u32], nodes: u32) -> bool
 
 // The marks at nodes whose sample does not agree with the mask and the value, or, with a turn of every bit, does. The value lies inside the mask.
 pub fn strays_turned(samples: &[u16], marks: &[u16], turn: u16, mask: u16, value: u16) -> u16
-    requires samples_len { (length samples.now ≡ length marks.now) × (mask < 2 ^ wordBits) }
+    requires samples_len { (length samples.now ≡ length marks.now) × (mask < 2 ^ word_bits) }
     requires mask_value { bit_and value mask ≡ value }
-    ensures { (b : Bool) → turn ≡ cond b (2 ^ halfBits - 1) 0 → members result ≡ (λ u. anyBelow (length marks.now) (λ v. members (get_or marks.now v 0) u && not (matches wordBits b mask value (get_or samples.now v 0)))) }
+    ensures { (b : Bool) → turn ≡ cond b (2 ^ half_bits - 1) 0 → members result ≡ (λ u. any_below (length marks.now) (λ v. members (get_or marks.now v 0) u && not (matches word_bits b mask value (get_or samples.now v 0)))) }
 {
     let mut all: u16 = 0;
     let mut v = 0;
@@ -109,9 +109,9 @@ pub fn strays_turned(samples: &[u16], marks: &[u16], turn: u16, mask: u16, value
 
 // The marks at nodes that a state, turned round or not, does not admit. The turn is known at each call, so that neither loop spends an operation on it.
 pub fn strays(samples: &[u16], marks: &[u16], turned: bool, mask: u16, value: u16) -> u16
-    requires samples_len { (length samples.now ≡ length marks.now) × (mask < 2 ^ wordBits) }
+    requires samples_len { (length samples.now ≡ length marks.now) × (mask < 2 ^ word_bits) }
     requires mask_value { bit_and value mask ≡ value }
-    ensures { members result ≡ (λ u. anyBelow (length marks.now) (λ v. members (get_or marks.now v 0) u && not (matches wordBits turned mask value (get_or samples.now v 0)))) }
+    ensures { members result ≡ (λ u. any_below (length marks.now) (λ v. members (get_or marks.now v 0) u && not (matches word_bits turned mask value (get_or samples.now v 0)))) }
 {
     if turned {
         strays_turned(samples, marks, ALL_HALF, mask, value)
@@ -129,10 +129,10 @@ pub fn all_sparse(
     marks: &[u16],
     used: u32,
 ) -> bool
-    requires samples_len { (length samples.now ≡ length marks.now) × (length values.now ≡ length masks.now) × (length masks.now ≤ halfBits) }
-    requires masks_value { below (2 ^ wordBits) masks.now ≡ true }
-    requires by_index { (u : ℕ) → u < halfBits → members used u ≡ anyBelow (length marks.now) (λ v. members (get_or marks.now v 0) u) }
-    ensures { result ≡ all_below (length masks.now) (λ u. sparse samples.now marks.now (matches wordBits (members turned u) (get_or masks.now u 0) (get_or values.now u 0)) u) }
+    requires samples_len { (length samples.now ≡ length marks.now) × (length values.now ≡ length masks.now) × (length masks.now ≤ half_bits) }
+    requires masks_value { below (2 ^ word_bits) masks.now ≡ true }
+    requires by_index { (u : ℕ) → u < half_bits → members used u ≡ any_below (length marks.now) (λ v. members (get_or marks.now v 0) u) }
+    ensures { result ≡ all_below (length masks.now) (λ u. sparse samples.now marks.now (matches word_bits (members turned u) (get_or masks.now u 0) (get_or values.now u 0)) u) }
 {
     let mut faults: u32 = 0;
     let mut u = 0;
@@ -162,11 +162,11 @@ pub fn half_admitted(
     used: u32,
     first: u32,
 ) -> bool
-    requires samples_len { (length samples.now ≡ length marks.now) × (length values.now ≡ length masks.now) × (length masks.now ≤ halfBits) }
-    requires masks_value { below (2 ^ wordBits) masks.now ≡ true }
-    requires marks_len_bound { (length marks.now ≤ maxNodes) × (first < setBits) }
-    requires used_value { members used ≡ (λ u. anyBelow (length marks.now) (λ v. members (get_or marks.now v 0) u)) }
-    ensures { result ≡ all_below (length masks.now) (λ u. sparse samples.now marks.now (matches wordBits (members turned (first + u)) (get_or masks.now u 0) (get_or values.now u 0)) (first + u)) }
+    requires samples_len { (length samples.now ≡ length marks.now) × (length values.now ≡ length masks.now) × (length masks.now ≤ half_bits) }
+    requires masks_value { below (2 ^ word_bits) masks.now ≡ true }
+    requires marks_len_bound { (length marks.now ≤ max_nodes) × (first < set_bits) }
+    requires used_value { members used ≡ (λ u. any_below (length marks.now) (λ v. members (get_or marks.now v 0) u)) }
+    ensures { result ≡ all_below (length masks.now) (λ u. sparse samples.now marks.now (matches word_bits (members turned (first + u)) (get_or masks.now u 0) (get_or values.now u 0)) (first + u)) }
 {
     let some = used >> first;
     if some == 0 {
@@ -194,11 +194,11 @@ pub fn both_admitted(
     marks: &[u32],
     used: u32,
 ) -> bool
-    requires samples_len { (length samples.now ≡ length marks.now) × (length values.now ≡ length masks.now) × (length masks.now ≤ setBits) }
-    requires masks_value { below (2 ^ wordBits) masks.now ≡ true }
-    requires marks_len_bound { length marks.now ≤ maxNodes }
-    requires used_value { members used ≡ (λ u. anyBelow (length marks.now) (λ v. members (get_or marks.now v 0) u)) }
-    ensures { result ≡ all_below (length masks.now) (λ u. sparse samples.now marks.now (matches wordBits (members turned u) (get_or masks.now u 0) (get_or values.now u 0)) u) }
+    requires samples_len { (length samples.now ≡ length marks.now) × (length values.now ≡ length masks.now) × (length masks.now ≤ set_bits) }
+    requires masks_value { below (2 ^ word_bits) masks.now ≡ true }
+    requires marks_len_bound { length marks.now ≤ max_nodes }
+    requires used_value { members used ≡ (λ u. any_below (length marks.now) (λ v. members (get_or marks.now v 0) u)) }
+    ensures { result ≡ all_below (length masks.now) (λ u. sparse samples.now marks.now (matches word_bits (members turned u) (get_or masks.now u 0) (get_or values.now u 0)) u) }
 {
     if masks.len() <= HALF_BITS {
         return half_admitted(masks, values, turned, samples, marks, used, 0);
@@ -228,11 +228,11 @@ pub fn all_admitted(
     marks: &[u32],
     used: u32,
 ) -> bool
-    requires samples_len { (length samples.now ≡ length marks.now) × (length values.now ≡ length masks.now) × (length masks.now ≤ setBits) }
-    requires masks_value { below (2 ^ wordBits) masks.now ≡ true }
-    requires samples_value { (below (2 ^ wordBits) samples.now ≡ true) × (length marks.now ≤ maxNodes) }
-    requires used_value { members used ≡ (λ u. anyBelow (length marks.now) (λ v. members (get_or marks.now v 0) u)) }
-    ensures { result ≡ all_below (length masks.now) (λ u. sparse samples.now marks.now (accepts wordBits (members inverted u) (get_or masks.now u 0) (get_or values.now u 0)) u) }
+    requires samples_len { (length samples.now ≡ length marks.now) × (length values.now ≡ length masks.now) × (length masks.now ≤ set_bits) }
+    requires masks_value { below (2 ^ word_bits) masks.now ≡ true }
+    requires samples_value { (below (2 ^ word_bits) samples.now ≡ true) × (length marks.now ≤ max_nodes) }
+    requires used_value { members used ≡ (λ u. any_below (length marks.now) (λ v. members (get_or marks.now v 0) u)) }
+    ensures { result ≡ all_below (length masks.now) (λ u. sparse samples.now marks.now (accepts word_bits (members inverted u) (get_or masks.now u 0) (get_or values.now u 0)) u) }
 {
     if used == 0 {
         return true;

@@ -44,14 +44,14 @@ module _ (f : ℕ → ℕ) (entry : List ℕ) where
       ∙ ap (λ (n : ℕ). table n f) whole
 
 -- a list is stored at the front of one that is no shorter, and zeros in the places after it
-pub fill-parts : (place source front rest : List ℕ) (n k : ℕ)
+pub fill_parts : (place source front rest : List ℕ) (n k : ℕ)
     → length source ≡ n
     → n ≤ length place
     → front ≡ source
     → k ≡ length (front ++ drop n place) - n
     → rest ≡ section (length (take k (drop n (front ++ drop n place)))) []
     → take n (front ++ drop n place) ++ (rest ++ drop k (drop n (front ++ drop n place))) ≡ section (length place) source
-fill-parts place source front rest n k whole l e size zeros =
+fill_parts place source front rest n k whole l e size zeros =
     let long : length front ≡ n = ap length e ∙ whole in
     let past : drop n (front ++ drop n place) ≡ drop n place = drop_at front (drop n place) n long in
     let left : k ≡ length (drop n place) = omega (arith, size, long, length-append front (drop n place)) in

@@ -1,9 +1,9 @@
 // Sections of a session filled: words, half words or edges, and zeros after them.
 ghost use Rattle.std.specs.Prelude.{◌≡◌, true, [], ◌≤◌, ◌<◌, length};
-ghost use Rattle.session.specs.Limits.{maxNodes};
+ghost use Rattle.session.specs.Limits.{max_nodes};
 ghost use Rattle.session.specs.Layout.{numbered, section, below};
 ghost use Rattle.session.specs.Tests.{halves};
-ghost use Rattle.bits.specs.Word.{setBits};
+ghost use Rattle.bits.specs.Word.{set_bits};
 
 // The words of a source go to places that are as many.
 pub fn copy_words(place: &mut [u32], source: &[u32])
@@ -61,7 +61,7 @@ pub fn fill_halves(place: &mut [u32], source: &[u16])
 
 // The same of the numbers of edges.
 pub fn copy_edges(place: &mut [u32], starts: &[u32], ends: &[u32])
-    requires starts_value { (below maxNodes starts.now ≡ true) × (below maxNodes ends.now ≡ true) }
+    requires starts_value { (below max_nodes starts.now ≡ true) × (below max_nodes ends.now ≡ true) }
     requires ends_len { (length ends.now ≡ length starts.now) × (length starts.now ≡ length place.old) }
     ensures { place.new ≡ numbered starts.now ends.now }
 {
@@ -73,7 +73,7 @@ pub fn copy_edges(place: &mut [u32], starts: &[u32], ends: &[u32])
 }
 
 pub fn fill_edges(place: &mut [u32], starts: &[u32], ends: &[u32])
-    requires starts_value { (below maxNodes starts.now ≡ true) × (below maxNodes ends.now ≡ true) }
+    requires starts_value { (below max_nodes starts.now ≡ true) × (below max_nodes ends.now ≡ true) }
     requires ends_len { length ends.now ≡ length starts.now }
     requires starts_in_bounds { length starts.now ≤ length place.old }
     ensures { place.new ≡ section (length place.old) (numbered starts.now ends.now) }
@@ -85,7 +85,7 @@ pub fn fill_edges(place: &mut [u32], starts: &[u32], ends: &[u32])
 
 // Half of each word, from a bit on, goes to places of that width that are as many.
 pub fn narrow(place: &mut [u16], source: &[u32], from: u32)
-    requires { (length source.now ≡ length place.old) × (from < setBits) }
+    requires { (length source.now ≡ length place.old) × (from < set_bits) }
     ensures { place.new ≡ halves from source.now }
 {
     let mut i = 0;

@@ -1,6 +1,6 @@
 -- 02, Job 5: the states reached from State One. Firing asks for these, and the visit of the walk order writes these.
 use Rattle.std.specs.Prelude.{ℕ, ◌<◌, ◌≡◌, true, ◌&&◌, ◌||◌, List, eqb}
-use Rattle.simulation.specs.Sets.{Set, anyBelow, grown}
+use Rattle.simulation.specs.Sets.{Set, any_below, grown}
 use Rattle.session.specs.Trigger.{Trigger, states, linked}
 
 -- "states reached from State One, itself included": a chain of links, of any length, leads there
@@ -10,8 +10,8 @@ pub data Reached (t : Trigger) : ℕ → Type 0 where
 
 -- the set of them, computed. That it has just the states with a chain is proved in proofs/Reached.
 unfoldable pub reached : Trigger → Set
-reached t = grown (states t) (λ X u'. eqb u' 0 || anyBelow (states t) (λ u. linked t u u' && X u))
+reached t = grown (states t) (λ X u'. eqb u' 0 || any_below (states t) (λ u. linked t u u' && X u))
 
 -- a trigger with these links: what is reached, and the walk order, depend on nothing else
-abbrev pub linkedBy : List ℕ → Trigger
-linkedBy links = record { masks = links; values = links; links = links; inverted = 0 }
+abbrev pub linked_by : List ℕ → Trigger
+linked_by links = record { masks = links; values = links; links = links; inverted = 0 }

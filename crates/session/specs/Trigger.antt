@@ -4,7 +4,7 @@ use Rattle.simulation.specs.Sets.{all_below}
 use Rattle.simulation.specs.Ordered.{insert, remove, joins}
 use Rattle.simulation.specs.Pattern.{Pattern, plain}
 use Rattle.bits.specs.Word.{bit, members}
-use Rattle.session.specs.Limits.{maxNodes, wordBits}
+use Rattle.session.specs.Limits.{max_nodes, word_bits}
 
 -- "A state has a mask and a value, 16 bits each, and a set of links to states": one entry a state in each list; link set bit i is for index i.
 -- 02, Job 1, "A state may be inverted": the set of those that are, bit i for index i
@@ -34,18 +34,18 @@ unfoldable pub linked : Trigger → ℕ → ℕ → Bool
 linked t u u' = members (get_or t.links u 0) u'
 
 -- "An edge is an ordered pair (start, end)": the number of the edge from v to w, and whether the graph has it
-abbrev pub edgeNumber : ℕ → ℕ → ℕ
-edgeNumber v w = v * maxNodes + w
+abbrev pub edge_number : ℕ → ℕ → ℕ
+edge_number v w = v * max_nodes + w
 
 unfoldable pub edge : Graph → ℕ → ℕ → Bool
-edge g v w = joins maxNodes g.edges v w
+edge g v w = joins max_nodes g.edges v w
 
 -- the graph with the edge from a to b put in, or taken out
-abbrev pub withEdge : Graph → ℕ → ℕ → Graph
-withEdge g a b = record { samples = g.samples; edges = insert (edgeNumber a b) g.edges }
+abbrev pub with_edge : Graph → ℕ → ℕ → Graph
+with_edge g a b = record { samples = g.samples; edges = insert (edge_number a b) g.edges }
 
-abbrev pub withoutEdge : Graph → ℕ → ℕ → Graph
-withoutEdge g a b = record { samples = g.samples; edges = remove (edgeNumber a b) g.edges }
+abbrev pub without_edge : Graph → ℕ → ℕ → Graph
+without_edge g a b = record { samples = g.samples; edges = remove (edge_number a b) g.edges }
 
 -- "value and sample agree in every bit that is 1 in the mask", for words of k bits
 unfoldable pub agrees : ℕ → ℕ → ℕ → ℕ → Bool
@@ -61,7 +61,7 @@ accepts k inverted mask value sample = eqb mask 0 || matches k inverted mask val
 
 -- "State u admits node v"
 unfoldable pub admits : Trigger → Graph → ℕ → ℕ → Bool
-admits t g u v = accepts wordBits (members t.inverted u) (get_or t.masks u 0) (get_or t.values u 0) (get_or g.samples v 0)
+admits t g u v = accepts word_bits (members t.inverted u) (get_or t.masks u 0) (get_or t.values u 0) (get_or g.samples v 0)
 
 -- what is simulated: a link is carried by one edge
 abbrev pub pattern : Trigger → Graph → Pattern

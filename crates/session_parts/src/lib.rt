@@ -1,12 +1,12 @@
 // The parts of a session that is in layout, what it admits, and its marks stored.
 ghost use Rattle.std.specs.Prelude.{ℕ, ◌+◌, ◌<◌, ◌≤◌, ◌≡◌, true, take, drop, length, get_or, ◌++◌};
-ghost use Rattle.session.specs.Limits.{marksAt, maxNodes, fixedSize};
-ghost use Rattle.session.specs.Layout.{part, triggerOf, graph_of, inLayout, image};
+ghost use Rattle.session.specs.Limits.{marks_at, max_nodes, fixed_size};
+ghost use Rattle.session.specs.Layout.{part, trigger_of, graph_of, in_layout, image};
 ghost use Rattle.pair_tables.specs.Tables.{marked};
 ghost use Rattle.session.specs.Trigger.{nodes};
 ghost use Rattle.bits.specs.Word.{members};
 ghost use Rattle.session_parts.specs.Inside.{Inside};
-ghost use Rattle.session_parts.specs.Admission.{turnedIn, admittedAt, AdmittedPairs};
+ghost use Rattle.session_parts.specs.Admission.{turned_in, admitted_at, AdmittedPairs};
 
 use pair_tables::{admitted, admitted_at, turned_states};
 
@@ -20,43 +20,43 @@ pub fn part_of(session: &[u32], at: usize, used: usize) -> &[u32]
 }
 
 pub fn masks_of(session: &[u32]) -> &[u32]
-    requires { inLayout session.now ≡ true }
-    ensures { result.now ≡ (triggerOf session.now).masks }
+    requires { in_layout session.now ≡ true }
+    ensures { result.now ≡ (trigger_of session.now).masks }
 {
     part_of(session, session::MASKS_AT, session[0] as usize)
 }
 
 pub fn values_of(session: &[u32]) -> &[u32]
-    requires { inLayout session.now ≡ true }
-    ensures { result.now ≡ (triggerOf session.now).values }
+    requires { in_layout session.now ≡ true }
+    ensures { result.now ≡ (trigger_of session.now).values }
 {
     part_of(session, session::VALUES_AT, session[0] as usize)
 }
 
 pub fn links_of(session: &[u32]) -> &[u32]
-    requires { inLayout session.now ≡ true }
-    ensures { result.now ≡ (triggerOf session.now).links }
+    requires { in_layout session.now ≡ true }
+    ensures { result.now ≡ (trigger_of session.now).links }
 {
     part_of(session, session::LINKS_AT, session[0] as usize)
 }
 
 // The set of inverted states.
 pub fn inverted_of(session: &[u32]) -> u32
-    requires { inLayout session.now ≡ true }
-    ensures { result ≡ (triggerOf session.now).inverted }
+    requires { in_layout session.now ≡ true }
+    ensures { result ≡ (trigger_of session.now).inverted }
 {
     session[session::INVERTED_AT]
 }
 
 pub fn samples_of(session: &[u32]) -> &[u32]
-    requires { inLayout session.now ≡ true }
+    requires { in_layout session.now ≡ true }
     ensures { result.now ≡ (graph_of session.now).samples }
 {
     part_of(session, session::SAMPLES_AT, session[1] as usize)
 }
 
 pub fn edges_of(session: &[u32]) -> &[u32]
-    requires { inLayout session.now ≡ true }
+    requires { in_layout session.now ≡ true }
     ensures { result.now ≡ (graph_of session.now).edges }
 {
     part_of(session, session::EDGES_AT, session[2] as usize)
@@ -64,23 +64,23 @@ pub fn edges_of(session: &[u32]) -> &[u32]
 
 // The mark words, a word for each node.
 pub fn marks_of(session: &[u32]) -> &[u32]
-    requires { inLayout session.now ≡ true }
-    ensures { result.now ≡ take maxNodes (drop marksAt session.now) }
+    requires { in_layout session.now ≡ true }
+    ensures { result.now ≡ take max_nodes (drop marks_at session.now) }
 {
     &session[session::MARKS_AT..session::FIXED_SIZE]
 }
 
 // The states whose answer is turned round. They are asked for once, and handed to those who ask what is admitted, of one node or of all.
 pub fn turned_of(session: &[u32]) -> u32
-    requires { inLayout session.now ≡ true }
-    ensures { members result ≡ turnedIn session.now }
+    requires { in_layout session.now ≡ true }
+    ensures { members result ≡ turned_in session.now }
 {
     turned_states(masks_of(session), inverted_of(session))
 }
 
 // Fills a table that is zero with the admitted pairs; how many they are.
 pub fn admitted_pairs(session: &[u32], turned: u32, table: &mut [u32]) -> u32
-    requires { (inLayout session.now ≡ true) × (members turned ≡ turnedIn session.now) × (length table.old ≡ maxNodes) × ((v : ℕ) → get_or table.old v 0 ≡ 0) }
+    requires { (in_layout session.now ≡ true) × (members turned ≡ turned_in session.now) × (length table.old ≡ max_nodes) × ((v : ℕ) → get_or table.old v 0 ≡ 0) }
     ensures { AdmittedPairs session.now result table.new }
 {
     admitted(
@@ -94,8 +94,8 @@ pub fn admitted_pairs(session: &[u32], turned: u32, table: &mut [u32]) -> u32
 
 // The states that admit a node.
 pub fn admitting(session: &[u32], turned: u32, node: u32) -> u32
-    requires { (inLayout session.now ≡ true) × (members turned ≡ turnedIn session.now) × (node < nodes (graph_of session.now)) }
-    ensures { members result ≡ admittedAt session.now node }
+    requires { (in_layout session.now ≡ true) × (members turned ≡ turned_in session.now) × (node < nodes (graph_of session.now)) }
+    ensures { members result ≡ admitted_at session.now node }
 {
     let samples = samples_of(session);
     admitted_at(
@@ -108,8 +108,8 @@ pub fn admitting(session: &[u32], turned: u32, node: u32) -> u32
 
 // Writes a table to the session as its marks.
 pub fn store_marks(session: &mut [u32], table: &[u32])
-    requires { (inLayout session.old ≡ true) × (length table.now ≡ maxNodes) × Inside session.old table.now }
-    ensures { session.new ≡ image (triggerOf session.old) (graph_of session.old) (marked table.now) ++ drop fixedSize session.old }
+    requires { (in_layout session.old ≡ true) × (length table.now ≡ max_nodes) × Inside session.old table.now }
+    ensures { session.new ≡ image (trigger_of session.old) (graph_of session.old) (marked table.now) ++ drop fixed_size session.old }
 {
     sections::copy_words(&mut session[session::MARKS_AT..session::FIXED_SIZE], table);
 }

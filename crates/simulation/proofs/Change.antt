@@ -6,17 +6,17 @@ use mathlib.Core.Bool.{false, not}
 use Rattle.simulation.specs.Sets.{Set, In, none, union, minus}
 use Rattle.simulation.specs.System.{System, supported, greatest, refined, closure}
 use Rattle.simulation.proofs.Terms.{Simulation, Chain, seed, step, meeting, touched, changed}
-use Rattle.simulation.proofs.Sets.{clash, split, refuted, and-make, and_l, and_r, or_l, or_r, or-take, not-make, not-take}
-use Rattle.simulation.proofs.System.{supported-make, greatest-simulates, within-greatest, sandwich, reaches-make, reaches-take, closure-seed, closure-step, closure-domain, closure-chain}
+use Rattle.simulation.proofs.Sets.{clash, split, refuted, and_make, and_l, and_r, or_l, or_r, or-take, not_make, not-take}
+use Rattle.simulation.proofs.System.{supported_make, greatest-simulates, within-greatest, sandwich, reaches_make, reaches-take, closure-seed, closure-step, closure-domain, closure-chain}
 
-pub minus-make : (X Y : Set) (p : ℕ) → In X p → Y p ≡ false → In (minus X Y) p
-minus-make X Y p x y = and-make x (not-make y)
+pub minus_make : (X Y : Set) (p : ℕ) → In X p → Y p ≡ false → In (minus X Y) p
+minus_make X Y p x y = and_make x (not_make y)
 
-pub minus-l : (X Y : Set) (p : ℕ) → In (minus X Y) p → In X p
-minus-l X Y p h = and_l (X p) (not (Y p)) h
+pub minus_l : (X Y : Set) (p : ℕ) → In (minus X Y) p → In X p
+minus_l X Y p h = and_l (X p) (not (Y p)) h
 
-pub minus-r : (X Y : Set) (p : ℕ) → In (minus X Y) p → Y p ≡ false
-minus-r X Y p h = not-take (Y p) (and_r (X p) (not (Y p)) h)
+pub minus_r : (X Y : Set) (p : ℕ) → In (minus X Y) p → Y p ≡ false
+minus_r X Y p h = not-take (Y p) (and_r (X p) (not (Y p)) h)
 
 -- a chain ends at a seed of any larger set too
 pub chain-map : (s : System) (domain seeds wider : Set) → ((p : ℕ) → In seeds p → In wider p) → {p : ℕ} → Chain s domain seeds p → Chain s domain wider p
@@ -30,8 +30,8 @@ module _ (s : System) (less more : ℕ → ℕ → Set) (grows : (p o q : ℕ) �
   abbrev B : System
   B = meeting s more
 
-  pub greatest-grows : (p : ℕ) → In (greatest A) p → In (greatest B) p
-  greatest-grows =
+  pub greatest_grows : (p : ℕ) → In (greatest A) p → In (greatest B) p
+  greatest_grows =
       let g = greatest-simulates A in
       within-greatest B (In (greatest A)) record {
         inside = g.inside;
@@ -39,32 +39,32 @@ module _ (s : System) (less more : ℕ → ℕ → Set) (grows : (p o q : ℕ) �
         carries = λ p o h l d. let w = g.carries p o h l d in (w.0, w.1, grows p o w.0 w.2, w.3);
       }
 
-  pub touched-make : (X : Set) (p o q : ℕ) → o < s.duties → In (s.due p) o → q < s.pairs → In (more p o) q → less p o q ≡ false → In X q
+  pub touched_make : (X : Set) (p o q : ℕ) → o < s.duties → In (s.due p) o → q < s.pairs → In (more p o) q → less p o q ≡ false → In X q
       → In (touched s less more X) p
   unfolding touched
-  touched-make X p o q l d k m n h =
-      reaches-make (meeting s (λ p o. minus (more p o) (less p o))) X p o q l d k (minus-make (more p o) (less p o) q m n) h
+  touched_make X p o q l d k m n h =
+      reaches_make (meeting s (λ p o. minus (more p o) (less p o))) X p o q l d k (minus_make (more p o) (less p o) q m n) h
 
-  pub touched-mono : (X Y : Set) → ((p : ℕ) → In X p → In Y p) → (p : ℕ) → In (touched s less more X) p → In (touched s less more Y) p
+  pub touched_mono : (X Y : Set) → ((p : ℕ) → In X p → In Y p) → (p : ℕ) → In (touched s less more X) p → In (touched s less more Y) p
   unfolding touched
-  touched-mono X Y sub p h =
+  touched_mono X Y sub p h =
       let w = reaches-take (meeting s (λ p o. minus (more p o) (less p o))) X p h in
-      reaches-make (meeting s (λ p o. minus (more p o) (less p o))) Y p w.0 w.3.0 w.1 w.2 w.3.1 w.3.2 (sub w.3.0 w.3.3)
+      reaches_make (meeting s (λ p o. minus (more p o) (less p o))) Y p w.0 w.3.0 w.1 w.2 w.3.1 w.3.2 (sub w.3.0 w.3.3)
 
   -- deletion by refining the whole old simulation, with nothing settled
   pub shrinks : refined A none (greatest B) ≡ greatest A
-  shrinks = sandwich A none (greatest B) (λ p h. clash h refl) greatest-grows (greatest-simulates B).admits
+  shrinks = sandwich A none (greatest B) (λ p h. clash h refl) greatest_grows (greatest-simulates B).admits
 
   -- what is not touched still has its support
   pub untouched : (p : ℕ) → In (greatest B) p → touched s less more (greatest B) p ≡ false → In (supported A (greatest B)) p
   untouched p h t =
-      supported-make A (greatest B) p
+      supported_make A (greatest B) p
       (λ o l d.
       let w = (greatest-simulates B).carries p o h l d in
       let q = w.0 in
       ⊎_elim
       (λ e. (q, w.1, e, w.3))
-      (λ e. clash (touched-make (greatest B) p o q l d w.1 w.2 e w.3) t)
+      (λ e. clash (touched_make (greatest B) p o q l d w.1 w.2 e w.3) t)
       (split (less p o q)))
 
   -- The one argument. Where a domain has all that changed, and seeds all that changed and is touched, the backward closure has all that changed.
@@ -82,33 +82,33 @@ module _ (s : System) (less more : ℕ → ℕ → Set) (grows : (p o q : ℕ) �
 
     missed-new : (p : ℕ) → In missed p → In (greatest B) p
     unfolding changed
-    missed-new p h = minus-l (greatest B) (greatest A) p (minus-l (changed s less more) Reached p h)
+    missed-new p h = minus_l (greatest B) (greatest A) p (minus_l (changed s less more) Reached p h)
 
     missed-less : (p o q : ℕ) → In missed p → o < s.duties → In (s.due p) o → q < s.pairs → In (more p o) q → In (greatest B) q → In (less p o) q
     missed-less p o q h l d k m g =
-        let c = minus-l (changed s less more) Reached p h in
+        let c = minus_l (changed s less more) Reached p h in
         ⊎_elim (λ e. e)
         (λ e.
         clash
         (closure-seed (meeting s moves) domain seeds p ((greatest-simulates B).inside p (missed-new p h)) (covers p c)
-        (seeded p c (touched-make (greatest B) p o q l d k m e g)))
-        (minus-r (changed s less more) Reached p h))
+        (seeded p c (touched_make (greatest B) p o q l d k m e g)))
+        (minus_r (changed s less more) Reached p h))
         (split (less p o q))
 
     missed-next : (p o q : ℕ) → In missed p → o < s.duties → In (s.due p) o → In (less p o) q → In (greatest B) q → In (union (greatest A) missed) q
     unfolding changed
     missed-next p o q h l d m g =
-        let c = minus-l (changed s less more) Reached p h in
+        let c = minus_l (changed s less more) Reached p h in
         ⊎_elim
         (λ e. or_l (missed q) e)
         (λ e.
         or_r (greatest A q)
-        (minus-make (changed s less more) Reached q (minus-make (greatest B) (greatest A) q g e)
+        (minus_make (changed s less more) Reached q (minus_make (greatest B) (greatest A) q g e)
         (refuted (Reached q)
         (λ r.
         clash
         (closure-step (meeting s moves) domain seeds p o q ((greatest-simulates B).inside p (missed-new p h)) (covers p c) l d (follows p o q m) r)
-        (minus-r (changed s less more) Reached p h)))))
+        (minus_r (changed s less more) Reached p h)))))
         (split (greatest A q))
 
     missed-simulates : Simulation A (In (union (greatest A) missed))
@@ -135,8 +135,8 @@ module _ (s : System) (less more : ℕ → ℕ → Set) (grows : (p o q : ℕ) �
         (λ e.
         clash
         (within-greatest A (In (union (greatest A) missed)) missed-simulates p
-        (or_r (greatest A p) (minus-make (changed s less more) Reached p h e)))
-        (minus-r (greatest B) (greatest A) p h))
+        (or_r (greatest A p) (minus_make (changed s less more) Reached p h e)))
+        (minus_r (greatest B) (greatest A) p h))
         (split (Reached p))
 
   -- every changed pair has a chain of changed pairs to one that is touched
@@ -154,22 +154,22 @@ module _ (s : System) (less more : ℕ → ℕ → Set) (grows : (p o q : ℕ) �
         → union (greatest A) (refined B (greatest A) trial) ≡ greatest B
     unfolding changed
     inserted seeded =
-        sandwich B (greatest A) trial greatest-grows
+        sandwich B (greatest A) trial greatest_grows
         (λ p h.
         ⊎_elim (λ e. or_l (trial p) e)
         (λ e.
         or_r (greatest A p)
         (reached moves follows (minus s.admitted (greatest A)) seeds fresh
-        (λ p c t. seeded p (fresh p c) (touched-mono (greatest B) s.admitted (greatest-simulates B).admits p t))
-        p (minus-make (greatest B) (greatest A) p h e)))
+        (λ p c t. seeded p (fresh p c) (touched_mono (greatest B) s.admitted (greatest-simulates B).admits p t))
+        p (minus_make (greatest B) (greatest A) p h e)))
         (split (greatest A p)))
-        (λ p h. minus-l s.admitted (greatest A) p (closure-domain (meeting s moves) (minus s.admitted (greatest A)) seeds p h))
+        (λ p h. minus_l s.admitted (greatest A) p (closure-domain (meeting s moves) (minus s.admitted (greatest A)) seeds p h))
       where
         fresh : (p : ℕ) → In (changed s less more) p → In (minus s.admitted (greatest A)) p
         fresh p c =
-            minus-make s.admitted (greatest A) p
-            ((greatest-simulates B).admits p (minus-l (greatest B) (greatest A) p c))
-            (minus-r (greatest B) (greatest A) p c)
+            minus_make s.admitted (greatest A) p
+            ((greatest-simulates B).admits p (minus_l (greatest B) (greatest A) p c))
+            (minus_r (greatest B) (greatest A) p c)
 
     -- deletion: the affected set is what is reached within the old simulation; the rest of it stays
     abbrev affected : Set
@@ -182,15 +182,15 @@ module _ (s : System) (less more : ℕ → ℕ → Set) (grows : (p o q : ℕ) �
         sandwich A (minus (greatest B) affected) affected
         (λ p h.
         ⊎_elim (λ e. e)
-        (λ e. clash (hit p (minus-make (greatest B) (greatest A) p (minus-l (greatest B) affected p h) e)) (minus-r (greatest B) affected p h))
+        (λ e. clash (hit p (minus_make (greatest B) (greatest A) p (minus_l (greatest B) affected p h) e)) (minus_r (greatest B) affected p h))
         (split (greatest A p)))
         (λ p h.
         ⊎_elim
         (λ e. or_r (minus (greatest B) affected p) e)
-        (λ e. or_l (affected p) (minus-make (greatest B) affected p (greatest-grows p h) e))
+        (λ e. or_l (affected p) (minus_make (greatest B) affected p (greatest_grows p h) e))
         (split (affected p)))
         (λ p h. (greatest-simulates B).admits p (closure-domain (meeting s moves) (greatest B) seeds p h))
       where
         hit : (p : ℕ) → In (changed s less more) p → In affected p
-        hit = reached moves follows (greatest B) seeds (minus-l (greatest B) (greatest A))
-            (λ p c t. seeded p (minus-l (greatest B) (greatest A) p c) t)
+        hit = reached moves follows (greatest B) seeds (minus_l (greatest B) (greatest A))
+            (λ p c t. seeded p (minus_l (greatest B) (greatest A) p c) t)

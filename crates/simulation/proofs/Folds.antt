@@ -17,13 +17,13 @@ module _ (P : Set) (n : ℕ) where
   unfolding all_below
   fold_start = record { inside = omega arith; passed = refl }
 
-  pub fold-pass : (faults k : ℕ) → Folded P n faults k → k < n → P k ≡ true → Folded P n faults (k + 1)
+  pub fold_pass : (faults k : ℕ) → Folded P n faults k → k < n → P k ≡ true → Folded P n faults (k + 1)
   unfolding all_below
-  fold-pass faults k h l e = record { inside = omega arith; passed = rw (add-one, e) h.passed }
+  fold_pass faults k h l e = record { inside = omega arith; passed = rw (add-one, e) h.passed }
 
-  pub fold-fault : (k : ℕ) → k < n → P k ≡ false → Folded P n 1 (k + 1)
+  pub fold_fault : (k : ℕ) → k < n → P k ≡ false → Folded P n 1 (k + 1)
   unfolding all_below
-  fold-fault k l e = record { inside = omega arith; passed = rw (add-one, e) }
+  fold_fault k l e = record { inside = omega arith; passed = rw (add-one, e) }
 
   pub fold_end : (faults k : ℕ) → Folded P n faults k → n ≤ k → eqb faults 0 ≡ all_below n P
   fold_end faults k h l =

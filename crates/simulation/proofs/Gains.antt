@@ -14,8 +14,8 @@ use Rattle.simulation.specs.Sets.{Set, also}
 pub more-here : (k : ℕ) → ltb k (k + 1) ≡ true
 more-here k = lt-ltb k (k + 1) (omega arith)
 
-pub more-other : (i k : ℕ) → (i ≡ k → ⊥) → ltb i (k + 1) ≡ ltb i k
-more-other i k ne =
+pub more_other : (i k : ℕ) → (i ≡ k → ⊥) → ltb i (k + 1) ≡ ltb i k
+more_other i k ne =
     same (ltb i (k + 1)) (ltb i k)
     (λ h. let l = ltb-true i (k + 1) h in lt-ltb i k (omega arith))
     (λ h. let l = ltb-true i k h in lt-ltb i (k + 1) (omega arith))
@@ -28,7 +28,7 @@ row_more A X X' k old new u v =
     (λ (t : eqb u k ≡ true).
     let q : u ≡ k = eqb-true u k t in
     rw (q, more-here k, new k v, old k v, le-ltb k k (omega arith), eq-eqb k k refl))
-    (λ (t : eqb u k ≡ false). rw (more-other u k (eqb-false u k t), new u v, t, or-false) (old u v))
+    (λ (t : eqb u k ≡ false). rw (more_other u k (eqb-false u k t), new u v, t, or-false) (old u v))
     (split (eqb u k))
 
 -- ---- the set B, with the numbers below u that pass the test P
@@ -42,7 +42,7 @@ module _ (B P : Set) where
 
   module _ (u : ℕ) {Y : Set} (e : Y ≡ gained u) where
     away : (x : ℕ) → eqb x u ≡ false → Y x ≡ gained (u + 1) x
-    away x t = ap (λ (X : Set). X x) e ∙ ap (λ (b : Bool). B x || (b && P x)) (sym (more-other x u (eqb-false x u t)))
+    away x t = ap (λ (X : Set). X x) e ∙ ap (λ (b : Bool). B x || (b && P x)) (sym (more_other x u (eqb-false x u t)))
 
     -- u passes, and is put in
     pub gained-more : {Y' : Set} → P u ≡ true → Y' ≡ also Y u → Y' ≡ gained (u + 1)
@@ -56,8 +56,8 @@ module _ (B P : Set) where
         (split (eqb x u)))
 
     -- u fails
-    pub gained-pass : P u ≡ false → Y ≡ gained (u + 1)
-    gained-pass h =
+    pub gained_pass : P u ≡ false → Y ≡ gained (u + 1)
+    gained_pass h =
         fun_ext
         (λ x. ⊎_elim (λ (t : eqb x u ≡ true). rw (eqb-true x u t) here) (λ (t : eqb x u ≡ false). away x t) (split (eqb x u)))
       where

@@ -10,8 +10,8 @@ use mathlib.Core.Logic.{⊎_elim}
 use mathlib.Core.Bool.{Bool, true, false, not, ◌&&◌, ◌||◌, cond, and-false, and-true, or-true, or-false}
 use Rattle.simulation.specs.Sets.{Set, In, union, count, without, also}
 use Rattle.simulation.specs.System.{System, supported, refined, reaches, closure}
-use Rattle.simulation.proofs.Sets.{clash, split, refuted, and-make, and_l, or_l, or_r, or-take, not-make, count-drop}
-use Rattle.simulation.proofs.System.{extensional, sweep, closure-seed, closure-step, closure-least, reaches-take, reaches-make}
+use Rattle.simulation.proofs.Sets.{clash, split, refuted, and_make, and_l, or_l, or_r, or-take, not_make, count-drop}
+use Rattle.simulation.proofs.System.{extensional, sweep, closure-seed, closure-step, closure_least, reaches-take, reaches_make}
 
 -- ---- one number less, one more
 
@@ -20,13 +20,13 @@ without_sub X x p h = and_l (X p) (not (eqb p x)) h
 
 pub without_other : (X : Set) (x p : ℕ) → In X p → without X x p ≡ false → p ≡ x
 without_other X x p h e =
-    ⊎_elim (λ b. eqb-true p x b) (λ b. clash (and-make h (not-make b)) e) (split (eqb p x))
+    ⊎_elim (λ b. eqb-true p x b) (λ b. clash (and_make h (not_make b)) e) (split (eqb p x))
 
 pub without_gone : (X : Set) (x : ℕ) → without X x x ≡ false
 without_gone X x = rw (eq-eqb x x refl) (and-false (X x))
 
-pub without-falls : (n : ℕ) (X : Set) (x : ℕ) → x < n → In X x → count n (without X x) < count n X
-without-falls n X x l h = count-drop n (without X x) X (without_sub X x) x l h (without_gone X x)
+pub without_falls : (n : ℕ) (X : Set) (x : ℕ) → x < n → In X x → count n (without X x) < count n X
+without_falls n X x l h = count-drop n (without X x) X (without_sub X x) x l h (without_gone X x)
 
 pub also-rises : (n : ℕ) (X : Set) (x : ℕ) → x < n → X x ≡ false → count n X < count n (also X x)
 also-rises n X x l h = count-drop n X (also X x) (λ p m. or_l (eqb p x) m) x l (or_r (X x) (eq-eqb x x refl)) h
@@ -34,8 +34,8 @@ also-rises n X x l h = count-drop n X (also X x) (λ p m. or_l (eqb p x) m) x l 
 module _ (s : System) where
   -- ---- shrinking: a pair of T that S and T do not support may go; `swept` says when to stop
 
-  pub sweep-one : (S T : Set) (x : ℕ) → supported s (union S T) x ≡ false → refined s S (without T x) ≡ refined s S T
-  sweep-one S T x h = sweep s S T (without T x) (without_sub T x) (λ p m e. rw (without_other T x p m e) h)
+  pub sweep_one : (S T : Set) (x : ℕ) → supported s (union S T) x ≡ false → refined s S (without T x) ≡ refined s S T
+  sweep_one S T x h = sweep s S T (without T x) (without_sub T x) (λ p m e. rw (without_other T x p m e) h)
 
   -- ---- growing: X within the closure; a pair of the domain that is a seed or reaches X may come; when none is left X is the closure
 
@@ -54,9 +54,9 @@ module _ (s : System) where
     grown-whole done =
         extensional s X (closure s domain seeds) sub
         (λ p h.
-        (closure-least s domain seeds (λ p. In X p × (p < s.pairs))
+        (closure_least s domain seeds (λ p. In X p × (p < s.pairs))
         (λ p l d e. (done p l d (or_l (reaches s X p) e), l))
-        (λ p o q l d k w m r. (done p l d (or_r (seeds p) (reaches-make s X p o q k w r.1 m r.0)), l))
+        (λ p o q l d k w m r. (done p l d (or_r (seeds p) (reaches_make s X p o q k w r.1 m r.0)), l))
         p h).0)
 
 -- ---- counts
@@ -66,16 +66,16 @@ unfolding count
 count_same zero f g h = refl
 count_same (suc n) f g h = rw (h n (omega arith), count_same n f g (λ p l. h p (omega arith)))
 
-bit-apart : (a b : Bool) → (a ≡ true → b ≡ true → ⊥) → cond (a || b) 1 0 ≡ cond a 1 0 + cond b 1 0
-bit-apart true true h = absurd (h refl refl)
-bit-apart true false h = refl
-bit-apart false b h = omega arith
+bit_apart : (a b : Bool) → (a ≡ true → b ≡ true → ⊥) → cond (a || b) 1 0 ≡ cond a 1 0 + cond b 1 0
+bit_apart true true h = absurd (h refl refl)
+bit_apart true false h = refl
+bit_apart false b h = omega arith
 
 -- two sets that share nothing
-pub count-apart : (n : ℕ) (f g : Set) → ((p : ℕ) → In f p → In g p → ⊥) → count n (union f g) ≡ count n f + count n g
+pub count_apart : (n : ℕ) (f g : Set) → ((p : ℕ) → In f p → In g p → ⊥) → count n (union f g) ≡ count n f + count n g
 unfolding count
-count-apart zero f g h = refl
-count-apart (suc n) f g h = omega (arith, bit-apart (f n) (g n) (h n), count-apart n f g h)
+count_apart zero f g h = refl
+count_apart (suc n) f g h = omega (arith, bit_apart (f n) (g n) (h n), count_apart n f g h)
 
 -- no member below n
 pub count_none : (n : ℕ) (X : Set) → ((p : ℕ) → p < n → X p ≡ false) → count n X ≡ 0
@@ -94,14 +94,14 @@ count-not (suc n) X = omega (arith, one (X n), count-not n X)
     one true = refl
     one false = refl
 
-pub count-only : (n i : ℕ) → i < n → count n (λ p. eqb p i) ≡ 1
+pub count_only : (n i : ℕ) → i < n → count n (λ p. eqb p i) ≡ 1
 unfolding count
-count-only zero i l = absurd (omega arith)
-count-only (suc n) i l =
+count_only zero i l = absurd (omega arith)
+count_only (suc n) i l =
     ⊎_elim
     (λ (e : eqb n i ≡ true).
     rw (e, count_none n (λ p. eqb p i) (λ p m. let here = eqb-true n i e in ne_eqb p i (omega arith))))
-    (λ (e : eqb n i ≡ false). let away = eqb-false n i e in rw (e, count-only n i (omega arith)))
+    (λ (e : eqb n i ≡ false). let away = eqb-false n i e in rw (e, count_only n i (omega arith)))
     (split (eqb n i))
 
 -- one member more, and one less
@@ -109,8 +109,8 @@ pub count-also : (n : ℕ) (X : Set) (i : ℕ) → i < n → X i ≡ false → c
 count-also n X i l e =
     omega (
       arith,
-      count-apart n X (λ p. eqb p i) (λ p m t. clash m (ap X (eqb-true p i t) ∙ e)),
-      count-only n i l,
+      count_apart n X (λ p. eqb p i) (λ p m t. clash m (ap X (eqb-true p i t) ∙ e)),
+      count_only n i l,
     )
 
 pub count-without : (n : ℕ) (X : Set) (i : ℕ) → i < n → X i ≡ true → suc (count n (without X i)) ≡ count n X
@@ -125,9 +125,9 @@ count-without n X i l e =
         (split (eqb p i))
 
 -- no member from k on: a wider range counts the same
-pub count-beyond : (k j : ℕ) (X : Set) → ((p : ℕ) → In X p → p < k) → k ≤ j → count j X ≡ count k X
+pub count_beyond : (k j : ℕ) (X : Set) → ((p : ℕ) → In X p → p < k) → k ≤ j → count j X ≡ count k X
 unfolding count
-count-beyond k j X h =
+count_beyond k j X h =
     le_ind (λ (n : ℕ). count n X ≡ count k X) refl
     (λ n l e. rw (refuted (X n) (λ m. omega (arith, h n m))) (omega arith)) j
 

@@ -13,7 +13,7 @@ use borrow.Author.Tests.{ltb-true, ltb-false, lt-ltb, leb-true, leb-false, eqb-t
 use Rattle.simulation.specs.Search.{first}
 use Rattle.simulation.specs.Sets.{Set}
 use Rattle.simulation.specs.Ordered.{elem, ascends, list_of, insert, remove}
-use Rattle.simulation.proofs.Sets.{clash, split, same, refuted, and_l, and_r, or_l, or_r, or-take, not-take, all-make, all_take}
+use Rattle.simulation.proofs.Sets.{clash, split, same, refuted, and_l, and_r, or_l, or_r, or-take, not-take, all_make, all_take}
 use Rattle.simulation.proofs.Search.{first-le, first-before, first-at}
 
 -- each entry is below all that follow it
@@ -27,9 +27,9 @@ pub elem-head : (x : ℕ) (xs : List ℕ) → elem x (x ∷ xs) ≡ true
 unfolding elem
 elem-head x xs = or_l (elem x xs) (eq-eqb x x refl)
 
-pub elem-tail : (x y : ℕ) (ys : List ℕ) → elem x ys ≡ true → elem x (y ∷ ys) ≡ true
+pub elem_tail : (x y : ℕ) (ys : List ℕ) → elem x ys ≡ true → elem x (y ∷ ys) ≡ true
 unfolding elem
-elem-tail x y ys h = or_r (eqb x y) h
+elem_tail x y ys h = or_r (eqb x y) h
 
 pub elem-take : (x y : ℕ) (ys : List ℕ) → elem x (y ∷ ys) ≡ true → (x ≡ y) ⊎ (elem x ys ≡ true)
 unfolding elem
@@ -39,15 +39,15 @@ elem-take x y ys h = ⊎_elim (λ e. inl (eqb-true x y e)) (λ e. inr e) (or-tak
 pub elem_at : (xs : List ℕ) (k : ℕ) → k < length xs → elem (get_or xs k 0) xs ≡ true
 elem_at [] k h = absurd (omega arith)
 elem_at (x ∷ xs) zero h = elem-head x xs
-elem_at (x ∷ xs) (suc k) h = elem-tail (get_or xs k 0) x xs (elem_at xs k (omega arith))
+elem_at (x ∷ xs) (suc k) h = elem_tail (get_or xs k 0) x xs (elem_at xs k (omega arith))
 
-pub elem-index : (x : ℕ) (xs : List ℕ) → elem x xs ≡ true → (k : ℕ) × (k < length xs) × (get_or xs k 0 ≡ x)
+pub elem_index : (x : ℕ) (xs : List ℕ) → elem x xs ≡ true → (k : ℕ) × (k < length xs) × (get_or xs k 0 ≡ x)
 unfolding elem
-elem-index x [] h = clash h refl
-elem-index x (y ∷ ys) h =
+elem_index x [] h = clash h refl
+elem_index x (y ∷ ys) h =
     ⊎_elim
     (λ e. (zero, omega arith, sym e))
-    (λ e. let r = elem-index x ys e in (suc r.0, omega arith, r.2))
+    (λ e. let r = elem_index x ys e in (suc r.0, omega arith, r.2))
     (elem-take x y ys h)
 
 -- ---- ascending
@@ -76,15 +76,15 @@ ascending (x ∷ xs) r j zero h l = absurd (omega arith)
 ascending (x ∷ xs) r zero (suc k) h l = r.0 (get_or xs k 0) (elem_at xs k (omega arith))
 ascending (x ∷ xs) r (suc j) (suc k) h l = ascending xs r.1 j k (omega arith) (omega arith)
 
-pub rising-make : (xs : List ℕ) → Rising xs → ascends xs ≡ true
+pub rising_make : (xs : List ℕ) → Rising xs → ascends xs ≡ true
 unfolding ascends
-rising-make xs r =
-    all-make (length xs - 1) (λ k. ltb (get_or xs k 0) (get_or xs (k + 1) 0))
+rising_make xs r =
+    all_make (length xs - 1) (λ k. ltb (get_or xs k 0) (get_or xs (k + 1) 0))
     (λ k l. lt-ltb (get_or xs k 0) (get_or xs (k + 1) 0) (ascending xs r k (k + 1) (omega arith) (omega arith)))
 
 -- the first entry is the least
-pub rising-least : (x y : ℕ) (ys : List ℕ) → Rising (y ∷ ys) → elem x (y ∷ ys) ≡ true → y ≤ x
-rising-least x y ys r h =
+pub rising_least : (x y : ℕ) (ys : List ℕ) → Rising (y ∷ ys) → elem x (y ∷ ys) ≡ true → y ≤ x
+rising_least x y ys r h =
     ⊎_elim (λ (e : x ≡ y). omega arith) (λ e. let l : y < x = r.0 x e in omega arith) (elem-take x y ys h)
 
 -- ---- the place of a number: the index of the first entry that is not below it
@@ -141,12 +141,12 @@ length-insert x (y ∷ ys) = by (ltb x y) (length-insert x ys)
 pub rising-insert : (x : ℕ) (xs : List ℕ) → Rising xs → elem x xs ≡ false → Rising (insert x xs)
 unfolding elem insert
 rising-insert x [] r h = (λ y e. clash e refl, tt)
-rising-insert x (y ∷ ys) r h = by (ltb x y) refl (rising-insert x ys r.1 (refuted (elem x ys) (λ e. clash (elem-tail x y ys e) h)))
+rising-insert x (y ∷ ys) r h = by (ltb x y) refl (rising-insert x ys r.1 (refuted (elem x ys) (λ e. clash (elem_tail x y ys e) h)))
   where
     by : (b : Bool) → ltb x y ≡ b → Rising (insert x ys) → Rising (cond b (x ∷ y ∷ ys) (y ∷ insert x ys))
     by true e ih =
         let l = ltb-true x y e in
-        (λ z m. let k : y ≤ z = rising-least z y ys r m in omega arith, r)
+        (λ z m. let k : y ≤ z = rising_least z y ys r m in omega arith, r)
     by false e ih =
         let l = ltb-false x y e in
         let ne : (x ≡ y → ⊥) = λ q. clash (or_l (elem x ys) (eq-eqb x y q)) h in
@@ -199,27 +199,27 @@ rising-remove x (y ∷ ys) r = by (eqb x y) (rising-remove x ys r.1)
 
 -- ---- a set has one ascending list
 
-pub same-elems : (xs ys : List ℕ) → Rising xs → Rising ys → ((x : ℕ) → elem x xs ≡ elem x ys) → xs ≡ ys
+pub same_elems : (xs ys : List ℕ) → Rising xs → Rising ys → ((x : ℕ) → elem x xs ≡ elem x ys) → xs ≡ ys
 unfolding elem
-same-elems [] [] r s h = refl
-same-elems [] (y ∷ ys) r s h = clash (elem-head y ys) (sym (h y))
-same-elems (x ∷ xs) [] r s h = clash (elem-head x xs) (h x)
-same-elems (x ∷ xs) (y ∷ ys) r s h =
-    let up : y ≤ x = rising-least x y ys s (sym (h x) ∙ elem-head x xs) in
-    let down : x ≤ y = rising-least y x xs r (h y ∙ elem-head y ys) in
+same_elems [] [] r s h = refl
+same_elems [] (y ∷ ys) r s h = clash (elem-head y ys) (sym (h y))
+same_elems (x ∷ xs) [] r s h = clash (elem-head x xs) (h x)
+same_elems (x ∷ xs) (y ∷ ys) r s h =
+    let up : y ≤ x = rising_least x y ys s (sym (h x) ∙ elem-head x xs) in
+    let down : x ≤ y = rising_least y x xs r (h y ∙ elem-head y ys) in
     let e : x ≡ y = omega arith in
     rw (
       e,
-      same-elems xs ys r.1 s.1
+      same_elems xs ys r.1 s.1
           (λ z.
           same (elem z xs) (elem z ys)
-          (λ m. ⊎_elim (λ (k : z ≡ y). let l : x < z = r.0 z m in absurd (omega arith)) (λ k. k) (elem-take z y ys (sym (h z) ∙ elem-tail z x xs m)))
-          (λ m. ⊎_elim (λ (k : z ≡ x). let l : y < z = s.0 z m in absurd (omega arith)) (λ k. k) (elem-take z x xs (h z ∙ elem-tail z y ys m)))),
+          (λ m. ⊎_elim (λ (k : z ≡ y). let l : x < z = r.0 z m in absurd (omega arith)) (λ k. k) (elem-take z y ys (sym (h z) ∙ elem_tail z x xs m)))
+          (λ m. ⊎_elim (λ (k : z ≡ x). let l : y < z = s.0 z m in absurd (omega arith)) (λ k. k) (elem-take z x xs (h z ∙ elem_tail z y ys m)))),
     )
 
 pub remove-insert : (x : ℕ) (xs : List ℕ) → Rising xs → elem x xs ≡ false → remove x (insert x xs) ≡ xs
 remove-insert x xs r h =
-    same-elems (remove x (insert x xs)) xs (rising-remove x (insert x xs) (rising-insert x xs r h)) r
+    same_elems (remove x (insert x xs)) xs (rising-remove x (insert x xs) (rising-insert x xs r h)) r
     (λ y.
     elem-remove x y (insert x xs) ∙ ap (λ (b : Bool). b && not (eqb y x)) (elem-insert x y xs)
     ∙ ⊎_elim
@@ -229,7 +229,7 @@ remove-insert x xs r h =
 
 pub insert-remove : (x : ℕ) (xs : List ℕ) → Rising xs → elem x xs ≡ true → insert x (remove x xs) ≡ xs
 insert-remove x xs r h =
-    same-elems (insert x (remove x xs)) xs (rising-insert x (remove x xs) (rising-remove x xs r) gone) r
+    same_elems (insert x (remove x xs)) xs (rising-insert x (remove x xs) (rising-remove x xs r) gone) r
     (λ y.
     elem-insert x y (remove x xs) ∙ ap (λ (b : Bool). b || eqb y x) (elem-remove x y xs)
     ∙ ⊎_elim
@@ -254,7 +254,7 @@ pub rising-append : (xs ys : List ℕ) → Rising xs → Rising ys → ((x y : �
 rising-append [] ys h k above = k
 rising-append (x ∷ xs) ys h k above = (
   λ y e. ⊎_elim (λ i. h.0 y i) (λ i. above x y (elem-head x xs) i) (or-take (elem y xs) (elem y ys) (sym (elem-append y xs ys) ∙ e)),
-  rising-append xs ys h.1 k (λ z y i j. above z y (elem-tail z x xs i) j),
+  rising-append xs ys h.1 k (λ z y i j. above z y (elem_tail z x xs i) j),
 )
 
 -- ---- the members of a set below n
@@ -274,16 +274,16 @@ module _ (X : Set) where
       (λ e. let r = elem-one x n (X n) e in (omega (arith, r.0), ap X r.0 ∙ r.1))
       (or-take (elem x (list_of n X)) (elem x (cond (X n) (n ∷ []) [])) (sym (elem-append x (list_of n X) (cond (X n) (n ∷ []) [])) ∙ h))
 
-  pub listed-make : (n x : ℕ) → x < n → X x ≡ true → elem x (list_of n X) ≡ true
+  pub listed_make : (n x : ℕ) → x < n → X x ≡ true → elem x (list_of n X) ≡ true
   unfolding list_of
-  listed-make zero x l h = absurd (omega arith)
-  listed-make (suc n) x l h =
+  listed_make zero x l h = absurd (omega arith)
+  listed_make (suc n) x l h =
       elem-append x (list_of n X) (cond (X n) (n ∷ []) [])
       ∙ ⊎_elim
       (λ (e : suc x ≡ suc n).
       let q : x ≡ n = omega arith in
       or_r (elem x (list_of n X)) (rw (q, ap X (sym q) ∙ h) (elem-head n [])))
-      (λ (k : suc x < suc n). or_l (elem x (cond (X n) (n ∷ []) [])) (listed-make n x (omega arith) h))
+      (λ (k : suc x < suc n). or_l (elem x (cond (X n) (n ∷ []) [])) (listed_make n x (omega arith) h))
       (eq-or-lt_of_le l)
 
   pub listed-rises : (n : ℕ) → Rising (list_of n X)

@@ -11,7 +11,7 @@ use Rattle.simulation.specs.Sets.{Set, In}
 use Rattle.simulation.specs.System.{greatest}
 use Rattle.simulation.specs.Pattern.{Pattern, pair, paired, related, system, best}
 use Rattle.simulation.proofs.Terms.{Simulation, Simulates, carrying}
-use Rattle.simulation.proofs.Sets.{and-make, and_l, and_r}
+use Rattle.simulation.proofs.Sets.{and_make, and_l, and_r}
 use Rattle.simulation.proofs.System.{greatest-simulates, within-greatest}
 
 module _ (P : Pattern) where
@@ -33,14 +33,14 @@ module _ (P : Pattern) where
   positive p zero h = absurd (omega arith)
   positive p (suc k) h = omega arith
 
-  pub some-state : (p : ℕ) → p < P.nodes * n → 0 < n
-  some-state p h = positive p n h
+  pub some_state : (p : ℕ) → p < P.nodes * n → 0 < n
+  some_state p h = positive p n h
 
   pub state-inside : (p : ℕ) → p < P.nodes * n → p % n < n
-  state-inside p h = mod-lt p (some-state p h)
+  state-inside p h = mod-lt p (some_state p h)
 
   pub node-inside : (p : ℕ) → p < P.nodes * n → p / n < P.nodes
-  node-inside p h = (div-lt_iff_lt-mul (some-state p h)).1 h
+  node-inside p h = (div-lt_iff_lt-mul (some_state p h)).1 h
 
   pub pair-whole : (p : ℕ) → pair P (p % n) (p / n) ≡ p
   pair-whole p = div-add-mod' p n
@@ -53,8 +53,8 @@ module _ (P : Pattern) where
   pub related-pair : (X : Set) (u v : ℕ) → related P X u v ≡ true → In X (pair P u v)
   related-pair X u v h = and_r (ltb u n) (X (pair P u v)) h
 
-  pub related-make : (X : Set) (u v : ℕ) → u < n → In X (pair P u v) → related P X u v ≡ true
-  related-make X u v l h = and-make (lt-ltb u n l) h
+  pub related_make : (X : Set) (u v : ℕ) → u < n → In X (pair P u v) → related P X u v ≡ true
+  related_make X u v l h = and_make (lt-ltb u n l) h
 
   pub paired-pair : (R : ℕ → ℕ → Bool) (u v : ℕ) → u < n → paired P R (pair P u v) ≡ R u v
   paired-pair R u v l = rw (pair-state u v l, pair-node u v l)
@@ -69,8 +69,8 @@ module _ (P : Pattern) where
       let moved = P.carry (p % n) o (p / n) (q / n) in
       (eqb-true (P.target o) (q % n) (and_l test moved h), and_r test moved h)
 
-  pub meets-make : (p o q : ℕ) → P.target o ≡ q % n → P.carry (p % n) o (p / n) (q / n) ≡ true → In ((system P).meets p o) q
-  meets-make p o q e c = and-make (eq-eqb (P.target o) (q % n) e) c
+  pub meets_make : (p o q : ℕ) → P.target o ≡ q % n → P.carry (p % n) o (p / n) (q / n) ≡ true → In ((system P).meets p o) q
+  meets_make p o q e c = and_make (eq-eqb (P.target o) (q % n) e) c
 
   -- the same of the state u at the node v
   pub met_at : (u o v q : ℕ) → u < n → In ((system P).meets (pair P u v) o) q → (P.target o ≡ q % n) × (P.carry u o v (q / n) ≡ true)
@@ -97,12 +97,12 @@ module _ (P : Pattern) where
   unfolding best
   best-pair u v h = related-pair G u v h
 
-  pub best-make : (u v : ℕ) → u < n → In (greatest (system P)) (pair P u v) → best P u v ≡ true
+  pub best_make : (u v : ℕ) → u < n → In (greatest (system P)) (pair P u v) → best P u v ≡ true
   unfolding best
-  best-make u v l h = related-make G u v l h
+  best_make u v l h = related_make G u v l h
 
   pub best_of : (p : ℕ) → In (greatest (system P)) p → best P (p % n) (p / n) ≡ true
-  best_of p h = best-make (p % n) (p / n) (state-inside p (g.inside p h)) (rw (pair-whole p) h)
+  best_of p h = best_make (p % n) (p / n) (state-inside p (g.inside p h)) (rw (pair-whole p) h)
 
   pub best-simulates : Simulates P (λ u v. best P u v ≡ true)
   best-simulates = record {
@@ -122,7 +122,7 @@ module _ (P : Pattern) where
   pub within-best : (R : ℕ → ℕ → Type 0) → Simulates P R → (u v : ℕ) → R u v → best P u v ≡ true
   within-best R m u v r =
       let l = (m.inside u v r).0 in
-      best-make u v l (within-greatest (system P) X simulates (pair P u v) (rw (pair-state u v l, pair-node u v l) r))
+      best_make u v l (within-greatest (system P) X simulates (pair P u v) (rw (pair-state u v l, pair-node u v l) r))
     where
       X : ℕ → Type 0
       X p = R (p % n) (p / n)
@@ -140,7 +140,7 @@ module _ (P : Pattern) where
             let q = pair P (P.target o) w.0 in (
               q,
               pair_inside (P.target o) w.0 i.0 i.1,
-              meets-make p o q (sym (pair-state (P.target o) w.0 i.0)) (rw (pair-node (P.target o) w.0 i.0) w.2),
+              meets_make p o q (sym (pair-state (P.target o) w.0 i.0)) (rw (pair-node (P.target o) w.0 i.0) w.2),
               rw (pair-state (P.target o) w.0 i.0, pair-node (P.target o) w.0 i.0) w.3,
             );
       }
@@ -150,4 +150,4 @@ pub meets-more : (P : Pattern) (c : ℕ → ℕ → ℕ → ℕ → Bool) → ((
     → (p o q : ℕ) → In ((system P).meets p o) q → In ((system (carrying P c)).meets p o) q
 meets-more P c sub p o q h =
     let m = meets-take P p o q h in
-    meets-make (carrying P c) p o q m.0 (sub (p % P.states) o (p / P.states) (q / P.states) m.1)
+    meets_make (carrying P c) p o q m.0 (sub (p % P.states) o (p / P.states) (q / P.states) m.1)

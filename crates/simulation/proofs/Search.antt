@@ -92,13 +92,13 @@ module _ (P : Set) where
   unfolding found
   found_here i n h t = ap (λ (x : ℕ). ltb x n) (first-here i n h t) ∙ lt-ltb i n h
 
-  pub found-on : (i n : ℕ) → i < n → P i ≡ false → found P i n ≡ found P (i + 1) n
+  pub found_on : (i n : ℕ) → i < n → P i ≡ false → found P i n ≡ found P (i + 1) n
   unfolding found
-  found-on i n h t = ap (λ (x : ℕ). ltb x n) (first_on i n h t)
+  found_on i n h t = ap (λ (x : ℕ). ltb x n) (first_on i n h t)
 
-  pub found-make : (i n k : ℕ) → i ≤ k → k < n → P k ≡ true → found P i n ≡ true
+  pub found_make : (i n k : ℕ) → i ≤ k → k < n → P k ≡ true → found P i n ≡ true
   unfolding found
-  found-make i n k h l t =
+  found_make i n k h l t =
       ⊎_elim
       (λ m. clash t (first-before i n k h m))
       (λ (m : first P i n ≤ k). lt-ltb (first P i n) n (omega arith))

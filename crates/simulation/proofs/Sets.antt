@@ -7,7 +7,7 @@ use mathlib.Core.Logic.{◌⊎◌, inl, inr, ⊎_elim}
 use mathlib.Core.Bool.{Bool, true, false, not, ◌&&◌, ◌||◌, cond, and-false, or_assoc, and-or_distrib_right, true≢false}
 use lib.Dec.{ltb, eqb}
 use borrow.Author.Tests.{ltb-true, lt-ltb, eqb-true, eqb-false}
-use Rattle.simulation.specs.Sets.{Set, In, none, anyBelow, all_below, count, down, shrunk, up, grown}
+use Rattle.simulation.specs.Sets.{Set, In, none, any_below, all_below, count, down, shrunk, up, grown}
 
 -- ---- Booleans
 
@@ -27,8 +27,8 @@ same true b f g = sym (f refl)
 same false true f g = g refl
 same false false f g = refl
 
-pub and-make : {a b : Bool} → a ≡ true → b ≡ true → (a && b) ≡ true
-and-make p q = rw p q
+pub and_make : {a b : Bool} → a ≡ true → b ≡ true → (a && b) ≡ true
+and_make p q = rw p q
 
 pub and_l : (a b : Bool) → (a && b) ≡ true → a ≡ true
 and_l true b h = refl
@@ -51,13 +51,13 @@ or_r false p = p
 pub or-none : {a b : Bool} → a ≡ false → b ≡ false → (a || b) ≡ false
 or-none p q = rw (p, q)
 
-pub or-false-l : (a b : Bool) → (a || b) ≡ false → a ≡ false
-or-false-l true b h = h
-or-false-l false b h = refl
+pub or_false_l : (a b : Bool) → (a || b) ≡ false → a ≡ false
+or_false_l true b h = h
+or_false_l false b h = refl
 
-pub or-false-r : (a b : Bool) → (a || b) ≡ false → b ≡ false
-or-false-r true b h = clash refl h
-or-false-r false b h = h
+pub or_false_r : (a b : Bool) → (a || b) ≡ false → b ≡ false
+or_false_r true b h = clash refl h
+or_false_r false b h = h
 
 pub or-both : (a b c d : Bool) → ((a || (b && d)) || (c && d)) ≡ (a || ((b || c) && d))
 or-both a b c d = or_assoc a (b && d) (c && d) ∙ ap (λ (x : Bool). a || x) (sym (and-or_distrib_right b c d))
@@ -66,49 +66,49 @@ pub or-take : (a b : Bool) → (a || b) ≡ true → (a ≡ true) ⊎ (b ≡ tru
 or-take true b h = inl refl
 or-take false b h = inr h
 
-pub not-make : {b : Bool} → b ≡ false → not b ≡ true
-not-make p = rw p
+pub not_make : {b : Bool} → b ≡ false → not b ≡ true
+not_make p = rw p
 
 pub not-take : (b : Bool) → not b ≡ true → b ≡ false
 not-take true h = sym h
 not-take false h = refl
 
-pub implies-make : (a b : Bool) → (a ≡ true → b ≡ true) → (not a || b) ≡ true
-implies-make true b h = h refl
-implies-make false b h = refl
+pub implies_make : (a b : Bool) → (a ≡ true → b ≡ true) → (not a || b) ≡ true
+implies_make true b h = h refl
+implies_make false b h = refl
 
-pub implies-take : (a b : Bool) → (not a || b) ≡ true → a ≡ true → b ≡ true
-implies-take true b h e = h
-implies-take false b h e = clash e refl
+pub implies_take : (a b : Bool) → (not a || b) ≡ true → a ≡ true → b ≡ true
+implies_take true b h e = h
+implies_take false b h e = clash e refl
 
-pub implies-false : (a b : Bool) → (not a || b) ≡ false → (a ≡ true) × (b ≡ false)
-implies-false true b h = (refl, h)
-implies-false false b h = clash refl h
+pub implies_false : (a b : Bool) → (not a || b) ≡ false → (a ≡ true) × (b ≡ false)
+implies_false true b h = (refl, h)
+implies_false false b h = clash refl h
 
 -- ---- the bounded quantifiers
 
-pub any-make : (n : ℕ) (f : Set) (q : ℕ) → q < n → In f q → anyBelow n f ≡ true
-unfolding anyBelow
-any-make zero f q h m = absurd (not-suc-le-zero h)
-any-make (suc n) f q h m =
+pub any_make : (n : ℕ) (f : Set) (q : ℕ) → q < n → In f q → any_below n f ≡ true
+unfolding any_below
+any_make zero f q h m = absurd (not-suc-le-zero h)
+any_make (suc n) f q h m =
     ⊎_elim
-    (λ e. or_l (anyBelow n f) e)
-    (λ e. let ne : (q ≡ n → ⊥) = λ same. clash m (ap f same ∙ e) in or_r (f n) (any-make n f q (omega arith) m))
+    (λ e. or_l (any_below n f) e)
+    (λ e. let ne : (q ≡ n → ⊥) = λ same. clash m (ap f same ∙ e) in or_r (f n) (any_make n f q (omega arith) m))
     (split (f n))
 
-pub any-take : (n : ℕ) (f : Set) → anyBelow n f ≡ true → (q : ℕ) × (q < n) × In f q
-unfolding anyBelow
-any-take zero f h = clash h refl
-any-take (suc n) f h =
+pub any_take : (n : ℕ) (f : Set) → any_below n f ≡ true → (q : ℕ) × (q < n) × In f q
+unfolding any_below
+any_take zero f h = clash h refl
+any_take (suc n) f h =
     ⊎_elim
     (λ e. (n, omega arith, e))
-    (λ e. let r = any-take n f e in (r.0, omega arith, r.2))
-    (or-take (f n) (anyBelow n f) h)
+    (λ e. let r = any_take n f e in (r.0, omega arith, r.2))
+    (or-take (f n) (any_below n f) h)
 
-pub all-make : (n : ℕ) (f : Set) → ((q : ℕ) → q < n → In f q) → all_below n f ≡ true
+pub all_make : (n : ℕ) (f : Set) → ((q : ℕ) → q < n → In f q) → all_below n f ≡ true
 unfolding all_below
-all-make zero f h = refl
-all-make (suc n) f h = and-make (h n (omega arith)) (all-make n f (λ q l. h q (omega arith)))
+all_make zero f h = refl
+all_make (suc n) f h = and_make (h n (omega arith)) (all_make n f (λ q l. h q (omega arith)))
 
 pub all_take : (n : ℕ) (f : Set) → all_below n f ≡ true → (q : ℕ) → q < n → In f q
 unfolding all_below
@@ -125,12 +125,12 @@ pub all_both : (n : ℕ) (f g : Set) → all_below n (λ q. f q && g q) ≡ (all
 all_both n f g =
     same (all_below n (λ q. f q && g q)) (all_below n f && all_below n g)
     (λ h.
-    and-make
-    (all-make n f (λ q l. and_l (f q) (g q) (all_take n (λ q. f q && g q) h q l)))
-    (all-make n g (λ q l. and_r (f q) (g q) (all_take n (λ q. f q && g q) h q l))))
+    and_make
+    (all_make n f (λ q l. and_l (f q) (g q) (all_take n (λ q. f q && g q) h q l)))
+    (all_make n g (λ q l. and_r (f q) (g q) (all_take n (λ q. f q && g q) h q l))))
     (λ h.
-    all-make n (λ q. f q && g q)
-    (λ q l. and-make (all_take n f (and_l (all_below n f) (all_below n g) h) q l) (all_take n g (and_r (all_below n f) (all_below n g) h) q l)))
+    all_make n (λ q. f q && g q)
+    (λ q l. and_make (all_take n f (and_l (all_below n f) (all_below n g) h) q l) (all_take n g (and_r (all_below n f) (all_below n g) h) q l)))
 
 pub all-false : (n : ℕ) (f : Set) → all_below n f ≡ false → (q : ℕ) × (q < n) × (f q ≡ false)
 unfolding all_below
@@ -146,10 +146,10 @@ not-or true q = refl
 not-or false q = refl
 
 -- no number below n is in the set: each is outside
-pub not-any : (n : ℕ) (f : Set) → not (anyBelow n f) ≡ all_below n (λ q. not (f q))
-unfolding anyBelow all_below
-not-any zero f = refl
-not-any (suc n) f = not-or (f n) (anyBelow n f) ∙ ap (λ (b : Bool). not (f n) && b) (not-any n f)
+pub not_any : (n : ℕ) (f : Set) → not (any_below n f) ≡ all_below n (λ q. not (f q))
+unfolding any_below all_below
+not_any zero f = refl
+not_any (suc n) f = not-or (f n) (any_below n f) ∙ ap (λ (b : Bool). not (f n) && b) (not_any n f)
 
 -- ---- counting
 
@@ -157,9 +157,9 @@ bit : (b : Bool) → cond b 1 0 ≤ 1
 bit true = omega arith
 bit false = omega arith
 
-bit-mono : (a b : Bool) → (a ≡ true → b ≡ true) → cond a 1 0 ≤ cond b 1 0
-bit-mono true b h = rw (h refl) (omega arith)
-bit-mono false b h = zero-le
+bit_mono : (a b : Bool) → (a ≡ true → b ≡ true) → cond a 1 0 ≤ cond b 1 0
+bit_mono true b h = rw (h refl) (omega arith)
+bit_mono false b h = zero-le
 
 bit-drop : (a b : Bool) → a ≡ false → b ≡ true → cond a 1 0 < cond b 1 0
 bit-drop a b p q = rw (p, q) (omega arith)
@@ -169,10 +169,10 @@ unfolding count
 count-le zero f = zero-le
 count-le (suc n) f = omega (arith, bit (f n), count-le n f)
 
-pub count-mono : (n : ℕ) (f g : Set) → ((p : ℕ) → In f p → In g p) → count n f ≤ count n g
+pub count_mono : (n : ℕ) (f g : Set) → ((p : ℕ) → In f p → In g p) → count n f ≤ count n g
 unfolding count
-count-mono zero f g h = zero-le
-count-mono (suc n) f g h = omega (arith, bit-mono (f n) (g n) (h n), count-mono n f g h)
+count_mono zero f g h = zero-le
+count_mono (suc n) f g h = omega (arith, bit_mono (f n) (g n) (h n), count_mono n f g h)
 
 pub count-drop : (n : ℕ) (f g : Set) → ((p : ℕ) → In f p → In g p) → (x : ℕ) → x < n → In g x → f x ≡ false → count n f < count n g
 unfolding count
@@ -181,8 +181,8 @@ count-drop (suc n) f g h x l gx fx =
     ⊎_elim
     (λ e.
     let here = eqb-true x n e in
-    omega (arith, bit-drop (f n) (g n) (ap f (sym here) ∙ fx) (ap g (sym here) ∙ gx), count-mono n f g h))
-    (λ e. let away = eqb-false x n e in omega (arith, bit-mono (f n) (g n) (h n), count-drop n f g h x (omega arith) gx fx))
+    omega (arith, bit-drop (f n) (g n) (ap f (sym here) ∙ fx) (ap g (sym here) ∙ gx), count_mono n f g h))
+    (λ e. let away = eqb-false x n e in omega (arith, bit_mono (f n) (g n) (h n), count-drop n f g h x (omega arith) gx fx))
     (split (eqb x n))
 
 pub count-some : (n : ℕ) (f : Set) (x : ℕ) → x < n → In f x → 0 < count n f
@@ -209,9 +209,9 @@ module _ (n : ℕ) (F : Set → Set) (T : Set) where
       → ((X : Set) → ((p : ℕ) → R p → In X p) → (p : ℕ) → R p → In (F X) p)
       → (k p : ℕ) → R p → In (down n F T k) p
   unfolding down
-  down-greatest R inside start passes zero p r = and-make (lt-ltb p n (inside p r)) (start p r)
+  down-greatest R inside start passes zero p r = and_make (lt-ltb p n (inside p r)) (start p r)
   down-greatest R inside start passes (suc k) p r =
-      and-make
+      and_make
       (down-greatest R inside start passes k p r)
       (passes (down n F T k) (λ q. down-greatest R inside start passes k q) p r)
 
@@ -233,16 +233,16 @@ module _ (n : ℕ) (F : Set → Set) (T : Set) where
   shrunk-greatest R inside start passes p r = down-greatest R inside start passes n p r
 
   module _ (mono : (X Y : Set) → ((p : ℕ) → In X p → In Y p) → (p : ℕ) → In (F X) p → In (F Y) p) where
-    stable-step : (k : ℕ) → Stable k → Stable (suc k)
+    stable_step : (k : ℕ) → Stable k → Stable (suc k)
     unfolding down
-    stable-step k st p h =
-        mono (down n F T k) (down n F T (suc k)) (λ q m. and-make m (st q m)) p (and_r (down n F T k p) (F (down n F T k) p) h)
+    stable_step k st p h =
+        mono (down n F T k) (down n F T (suc k)) (λ q m. and_make m (st q m)) p (and_r (down n F T k p) (F (down n F T k) p) h)
 
     -- each step keeps all, or loses one
     progress : (k : ℕ) → Stable k ⊎ (count n (down n F T k) + k ≤ n)
     unfolding down
     progress zero = inr (omega (arith, count-le n (down n F T zero)))
-    progress (suc k) = ⊎_elim (λ st. inl (stable-step k st)) (λ c. go c (split (all_below n test))) (progress k)
+    progress (suc k) = ⊎_elim (λ st. inl (stable_step k st)) (λ c. go c (split (all_below n test))) (progress k)
       where
         now : Set
         now = down n F T k
@@ -251,10 +251,10 @@ module _ (n : ℕ) (F : Set → Set) (T : Set) where
         test p = not (now p) || F now p
 
         go : count n now + k ≤ n → (all_below n test ≡ true) ⊎ (all_below n test ≡ false) → Stable (suc k) ⊎ (count n (down n F T (suc k)) + suc k ≤ n)
-        go c (inl e) = inl (stable-step k (λ p h. implies-take (now p) (F now p) (all_take n test e p (down-start k p h).0) h))
+        go c (inl e) = inl (stable_step k (λ p h. implies_take (now p) (F now p) (all_take n test e p (down-start k p h).0) h))
         go c (inr e) =
             let r = all-false n test e in
-            let w = implies-false (now r.0) (F now r.0) r.2 in
+            let w = implies_false (now r.0) (F now r.0) r.2 in
             let lost : down n F T (suc k) r.0 ≡ false = and_none (now r.0) w.1 in
             inr (omega (arith, count-drop n (down n F T (suc k)) now (λ p. and_l (now p) (F now p)) r.0 r.1 w.0 lost))
 
@@ -284,17 +284,17 @@ module _ (n : ℕ) (G : Set → Set) where
   Closed k = (p : ℕ) → p < n → In (G (up n G k)) p → In (up n G k) p
 
   -- whatever relation has each number that passes the test made by a subset of it has the whole
-  pub grown-least : (R : ℕ → Type 0) → ((X : Set) → ((p : ℕ) → In X p → R p) → (p : ℕ) → p < n → In (G X) p → R p) → (p : ℕ) → In (grown n G) p → R p
+  pub grown_least : (R : ℕ → Type 0) → ((X : Set) → ((p : ℕ) → In X p → R p) → (p : ℕ) → p < n → In (G X) p → R p) → (p : ℕ) → In (grown n G) p → R p
   unfolding grown
-  grown-least R next p h = up_least R next n p h
+  grown_least R next p h = up_least R next n p h
 
   pub grown-inside : (p : ℕ) → In (grown n G) p → p < n
-  grown-inside = grown-least (λ p. p < n) (λ X sub p l h. l)
+  grown-inside = grown_least (λ p. p < n) (λ X sub p l h. l)
 
   module _ (mono : (X Y : Set) → ((p : ℕ) → In X p → In Y p) → (p : ℕ) → In (G X) p → In (G Y) p) where
-    closed-step : (k : ℕ) → Closed k → Closed (suc k)
+    closed_step : (k : ℕ) → Closed k → Closed (suc k)
     unfolding up
-    closed-step k st p l h =
+    closed_step k st p l h =
         or_l (ltb p n && G (up n G k) p)
         (st p l
         (mono (up n G (suc k)) (up n G k)
@@ -308,7 +308,7 @@ module _ (n : ℕ) (G : Set → Set) where
     gains : (k : ℕ) → Closed k ⊎ (k ≤ count n (up n G k))
     unfolding up
     gains zero = inr zero-le
-    gains (suc k) = ⊎_elim (λ st. inl (closed-step k st)) (λ c. go c (split (all_below n test))) (gains k)
+    gains (suc k) = ⊎_elim (λ st. inl (closed_step k st)) (λ c. go c (split (all_below n test))) (gains k)
       where
         now : Set
         now = up n G k
@@ -317,13 +317,13 @@ module _ (n : ℕ) (G : Set → Set) where
         test p = not (G now p) || now p
 
         go : k ≤ count n now → (all_below n test ≡ true) ⊎ (all_below n test ≡ false) → Closed (suc k) ⊎ (suc k ≤ count n (up n G (suc k)))
-        go c (inl e) = inl (closed-step k (λ p l h. implies-take (G now p) (now p) (all_take n test e p l) h))
+        go c (inl e) = inl (closed_step k (λ p l h. implies_take (G now p) (now p) (all_take n test e p l) h))
         go c (inr e) =
             let r = all-false n test e in
-            let w = implies-false (G now r.0) (now r.0) r.2 in
-            let won : up n G (suc k) r.0 ≡ true = or_r (now r.0) (and-make (lt-ltb r.0 n r.1) w.0) in
+            let w = implies_false (G now r.0) (now r.0) r.2 in
+            let won : up n G (suc k) r.0 ≡ true = or_r (now r.0) (and_make (lt-ltb r.0 n r.1) w.0) in
             inr (omega (arith, count-drop n now (up n G (suc k)) (λ p m. or_l (ltb p n && G now p) m) r.0 r.1 won w.1))
 
-    pub grown-closed : (p : ℕ) → p < n → In (G (grown n G)) p → In (grown n G) p
+    pub grown_closed : (p : ℕ) → p < n → In (G (grown n G)) p → In (grown n G) p
     unfolding grown
-    grown-closed p l h = ⊎_elim (λ st. st p l h) (λ c. count-full n (up n G n) c p l) (gains n)
+    grown_closed p l h = ⊎_elim (λ st. st p l h) (λ c. count-full n (up n G n) c p l) (gains n)

@@ -3,33 +3,33 @@ use Prim.Native.Nat.{ℕ, ◌<◌}
 use mathlib.Core.Path.{◌≡◌, fun_ext}
 use mathlib.Core.Logic.{◌⊎◌, inl, inr, ⊎_elim, ◌↔◌}
 use mathlib.Core.Bool.{false, not, ◌&&◌, ◌||◌}
-use Rattle.simulation.specs.Sets.{Set, In, union, anyBelow, shrunk}
+use Rattle.simulation.specs.Sets.{Set, In, union, any_below, shrunk}
 use Rattle.simulation.specs.System.{System, supported, level, greatest, refined, reaches, closure}
 use Rattle.simulation.proofs.Terms.{Simulation, Chain, seed, step}
 use Rattle.simulation.proofs.Sets.{
   clash,
   split,
   same,
-  and-make,
+  and_make,
   and_l,
   and_r,
   or_l,
   or_r,
   or-take,
-  implies-make,
-  implies-take,
-  any-make,
-  any-take,
-  all-make,
+  implies_make,
+  implies_take,
+  any_make,
+  any_take,
+  all_make,
   all_take,
   down-greatest,
   shrunk-inside,
   shrunk-start,
   shrunk-greatest,
   shrunk-holds,
-  grown-least,
+  grown_least,
   grown-inside,
-  grown-closed,
+  grown_closed,
 }
 
 -- ---- support
@@ -39,24 +39,24 @@ module _ (s : System) where
   abbrev pub Met : (ℕ → Type 0) → ℕ → ℕ → Type 0
   Met X p o = (q : ℕ) × (q < s.pairs) × In (s.meets p o) q × X q
 
-  pub supported-make : (X : Set) (p : ℕ) → ((o : ℕ) → o < s.duties → In (s.due p) o → Met (In X) p o) → In (supported s X) p
+  pub supported_make : (X : Set) (p : ℕ) → ((o : ℕ) → o < s.duties → In (s.due p) o → Met (In X) p o) → In (supported s X) p
   unfolding supported
-  supported-make X p h =
-      all-make s.duties (λ o. not (s.due p o) || anyBelow s.pairs (λ q. s.meets p o q && X q))
-      (λ o l. implies-make (s.due p o) (anyBelow s.pairs (λ q. s.meets p o q && X q))
-      (λ d. let w = h o l d in any-make s.pairs (λ q. s.meets p o q && X q) w.0 w.1 (and-make w.2 w.3)))
+  supported_make X p h =
+      all_make s.duties (λ o. not (s.due p o) || any_below s.pairs (λ q. s.meets p o q && X q))
+      (λ o l. implies_make (s.due p o) (any_below s.pairs (λ q. s.meets p o q && X q))
+      (λ d. let w = h o l d in any_make s.pairs (λ q. s.meets p o q && X q) w.0 w.1 (and_make w.2 w.3)))
 
   pub supported-take : (X : Set) (p : ℕ) → In (supported s X) p → (o : ℕ) → o < s.duties → In (s.due p) o → Met (In X) p o
   unfolding supported
   supported-take X p h o l d =
-      let r = any-take s.pairs (λ q. s.meets p o q && X q)
-      (implies-take (s.due p o) (anyBelow s.pairs (λ q. s.meets p o q && X q))
-      (all_take s.duties (λ o. not (s.due p o) || anyBelow s.pairs (λ q. s.meets p o q && X q)) h o l) d) in
+      let r = any_take s.pairs (λ q. s.meets p o q && X q)
+      (implies_take (s.due p o) (any_below s.pairs (λ q. s.meets p o q && X q))
+      (all_take s.duties (λ o. not (s.due p o) || any_below s.pairs (λ q. s.meets p o q && X q)) h o l) d) in
       (r.0, r.1, and_l (s.meets p o r.0) (X r.0) r.2, and_r (s.meets p o r.0) (X r.0) r.2)
 
-  pub supported-mono : (X Y : Set) → ((p : ℕ) → In X p → In Y p) → (p : ℕ) → In (supported s X) p → In (supported s Y) p
-  supported-mono X Y h p m =
-      supported-make Y p (λ o l d. let w = supported-take X p m o l d in (w.0, w.1, w.2, h w.0 w.3))
+  pub supported_mono : (X Y : Set) → ((p : ℕ) → In X p → In Y p) → (p : ℕ) → In (supported s X) p → In (supported s Y) p
+  supported_mono X Y h p m =
+      supported_make Y p (λ o l d. let w = supported-take X p m o l d in (w.0, w.1, w.2, h w.0 w.3))
 
   -- ---- the greatest simulation
 
@@ -65,7 +65,7 @@ module _ (s : System) where
   greatest-simulates = record {
     inside = shrunk-inside s.pairs (supported s) s.admitted;
     admits = shrunk-start s.pairs (supported s) s.admitted;
-    carries = λ p o h l d. supported-take (greatest s) p (shrunk-holds s.pairs (supported s) s.admitted supported-mono p h) o l d;
+    carries = λ p o h l d. supported-take (greatest s) p (shrunk-holds s.pairs (supported s) s.admitted supported_mono p h) o l d;
   }
 
   -- a simulation is within each level, and so within the greatest
@@ -73,7 +73,7 @@ module _ (s : System) where
   unfolding level
   within_level R m =
       down-greatest s.pairs (supported s) s.admitted R m.inside m.admits
-      (λ X sub p r. supported-make X p (λ o l d. let w = m.carries p o r l d in (w.0, w.1, w.2, sub w.0 w.3)))
+      (λ X sub p r. supported_make X p (λ o l d. let w = m.carries p o r l d in (w.0, w.1, w.2, sub w.0 w.3)))
 
   pub within-greatest : (R : ℕ → Type 0) → Simulation s R → (p : ℕ) → R p → In (greatest s) p
   unfolding greatest shrunk level
@@ -93,8 +93,8 @@ module _ (s : System) where
   beside S X Y h p m = ⊎_elim (λ e. or_l (Y p) e) (λ e. or_r (S p) (h p e)) (or-take (S p) (X p) m)
 
   module _ (S T : Set) where
-    refined-mono : (X Y : Set) → ((p : ℕ) → In X p → In Y p) → (p : ℕ) → In (supported s (union S X)) p → In (supported s (union S Y)) p
-    refined-mono X Y h p m = supported-mono (union S X) (union S Y) (beside S X Y h) p m
+    refined_mono : (X Y : Set) → ((p : ℕ) → In X p → In Y p) → (p : ℕ) → In (supported s (union S X)) p → In (supported s (union S Y)) p
+    refined_mono X Y h p m = supported_mono (union S X) (union S Y) (beside S X Y h) p m
 
     pub refined-inside : (p : ℕ) → In (refined s S T) p → p < s.pairs
     unfolding refined
@@ -106,7 +106,7 @@ module _ (s : System) where
 
     pub refined-holds : (p : ℕ) → In (refined s S T) p → In (supported s (union S (refined s S T))) p
     unfolding refined
-    refined-holds p h = shrunk-holds s.pairs (λ X. supported s (union S X)) T refined-mono p h
+    refined-holds p h = shrunk-holds s.pairs (λ X. supported s (union S X)) T refined_mono p h
 
     -- a relation within T whose obligations are met in S or in itself
     pub refined-greatest : (R : ℕ → Type 0) → ((p : ℕ) → R p → p < s.pairs) → ((p : ℕ) → R p → In T p)
@@ -116,7 +116,7 @@ module _ (s : System) where
     refined-greatest R inside start meets p r =
         shrunk-greatest s.pairs (λ X. supported s (union S X)) T R inside start
         (λ X sub p r.
-        supported-make (union S X) p
+        supported_make (union S X) p
         (λ o l d.
         let w = meets p o r l d in
         (w.0, w.1, w.2, ⊎_elim (λ e. or_l (X w.0) e) (λ e. or_r (S w.0) (sub w.0 e)) w.3)))
@@ -184,7 +184,7 @@ module _ (s : System) where
           ⊎_elim (λ e. e)
           (λ e.
           clash
-          (refined-mono S T (refined s S T) T (refined-start S T) p (refined-holds S T p h))
+          (refined_mono S T (refined s S T) T (refined-start S T) p (refined-holds S T p h))
           (gone p (refined-start S T p h) e))
           (split (U p))
 
@@ -196,18 +196,18 @@ module _ (s : System) where
 
   -- ---- backward closure
 
-  pub reaches-make : (X : Set) (p o q : ℕ) → o < s.duties → In (s.due p) o → q < s.pairs → In (s.meets p o) q → In X q → In (reaches s X) p
+  pub reaches_make : (X : Set) (p o q : ℕ) → o < s.duties → In (s.due p) o → q < s.pairs → In (s.meets p o) q → In X q → In (reaches s X) p
   unfolding reaches
-  reaches-make X p o q l d k m h =
-      any-make s.duties (λ o. s.due p o && anyBelow s.pairs (λ q. s.meets p o q && X q)) o l
-      (and-make d (any-make s.pairs (λ q. s.meets p o q && X q) q k (and-make m h)))
+  reaches_make X p o q l d k m h =
+      any_make s.duties (λ o. s.due p o && any_below s.pairs (λ q. s.meets p o q && X q)) o l
+      (and_make d (any_make s.pairs (λ q. s.meets p o q && X q) q k (and_make m h)))
 
   pub reaches-take : (X : Set) (p : ℕ) → In (reaches s X) p → (o : ℕ) × (o < s.duties) × In (s.due p) o × Met (In X) p o
   unfolding reaches
   reaches-take X p h =
-      let r = any-take s.duties (λ o. s.due p o && anyBelow s.pairs (λ q. s.meets p o q && X q)) h in
-      let some = anyBelow s.pairs (λ q. s.meets p r.0 q && X q) in
-      let w = any-take s.pairs (λ q. s.meets p r.0 q && X q) (and_r (s.due p r.0) some r.2) in (
+      let r = any_take s.duties (λ o. s.due p o && any_below s.pairs (λ q. s.meets p o q && X q)) h in
+      let some = any_below s.pairs (λ q. s.meets p r.0 q && X q) in
+      let w = any_take s.pairs (λ q. s.meets p r.0 q && X q) (and_r (s.due p r.0) some r.2) in (
         r.0,
         r.1,
         and_l (s.due p r.0) some r.2,
@@ -218,13 +218,13 @@ module _ (s : System) where
     abbrev grow : Set → Set
     grow X p = domain p && (seeds p || reaches s X p)
 
-    grow-mono : (X Y : Set) → ((p : ℕ) → In X p → In Y p) → (p : ℕ) → In (grow X) p → In (grow Y) p
-    grow-mono X Y sub p h =
-        and-make (and_l (domain p) (seeds p || reaches s X p) h)
+    grow_mono : (X Y : Set) → ((p : ℕ) → In X p → In Y p) → (p : ℕ) → In (grow X) p → In (grow Y) p
+    grow_mono X Y sub p h =
+        and_make (and_l (domain p) (seeds p || reaches s X p) h)
         (⊎_elim
         (λ e. or_l (reaches s Y p) e)
         (λ e. let w = reaches-take X p e in
-        or_r (seeds p) (reaches-make Y p w.0 w.3.0 w.1 w.2 w.3.1 w.3.2 (sub w.3.0 w.3.3)))
+        or_r (seeds p) (reaches_make Y p w.0 w.3.0 w.1 w.2 w.3.1 w.3.2 (sub w.3.0 w.3.3)))
         (or-take (seeds p) (reaches s X p) (and_r (domain p) (seeds p || reaches s X p) h)))
 
     pub closure-inside : (p : ℕ) → In (closure s domain seeds) p → p < s.pairs
@@ -233,21 +233,21 @@ module _ (s : System) where
 
     pub closure-seed : (p : ℕ) → p < s.pairs → In domain p → In seeds p → In (closure s domain seeds) p
     unfolding closure
-    closure-seed p l d e = grown-closed s.pairs grow grow-mono p l (and-make d (or_l (reaches s (closure s domain seeds) p) e))
+    closure-seed p l d e = grown_closed s.pairs grow grow_mono p l (and_make d (or_l (reaches s (closure s domain seeds) p) e))
 
     pub closure-step : (p o q : ℕ) → p < s.pairs → In domain p → o < s.duties → In (s.due p) o → In (s.meets p o) q
         → In (closure s domain seeds) q → In (closure s domain seeds) p
     unfolding closure
     closure-step p o q l d k w m h =
-        grown-closed s.pairs grow grow-mono p l
-        (and-make d (or_r (seeds p) (reaches-make (closure s domain seeds) p o q k w (closure-inside q h) m h)))
+        grown_closed s.pairs grow grow_mono p l
+        (and_make d (or_r (seeds p) (reaches_make (closure s domain seeds) p o q k w (closure-inside q h) m h)))
 
-    pub closure-least : (R : ℕ → Type 0) → ((p : ℕ) → p < s.pairs → In domain p → In seeds p → R p)
+    pub closure_least : (R : ℕ → Type 0) → ((p : ℕ) → p < s.pairs → In domain p → In seeds p → R p)
         → ((p o q : ℕ) → p < s.pairs → In domain p → o < s.duties → In (s.due p) o → In (s.meets p o) q → R q → R p)
         → (p : ℕ) → In (closure s domain seeds) p → R p
     unfolding closure
-    closure-least R first next p h =
-        grown-least s.pairs grow R
+    closure_least R first next p h =
+        grown_least s.pairs grow R
         (λ X sub p l m.
         let d = and_l (domain p) (seeds p || reaches s X p) m in
         ⊎_elim
@@ -257,11 +257,11 @@ module _ (s : System) where
         p h
 
     pub closure-domain : (p : ℕ) → In (closure s domain seeds) p → In domain p
-    closure-domain = closure-least (In domain) (λ p l d e. d) (λ p o q l d k w m h. d)
+    closure-domain = closure_least (In domain) (λ p l d e. d) (λ p o q l d k w m h. d)
 
     -- to be in the closure is to have a chain
     pub closure-chain : (p : ℕ) → In (closure s domain seeds) p → Chain s domain seeds p
-    closure-chain = closure-least (Chain s domain seeds) (λ p l d e. seed l d e) (λ p o q l d k w m h. step o q l d k w m h)
+    closure-chain = closure_least (Chain s domain seeds) (λ p l d e. seed l d e) (λ p o q l d k w m h. step o q l d k w m h)
 
     pub chain-closure : {p : ℕ} → Chain s domain seeds p → In (closure s domain seeds) p
     chain-closure {p} (seed l d e) = closure-seed p l d e

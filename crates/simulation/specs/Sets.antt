@@ -24,9 +24,9 @@ abbrev pub also : Set → ℕ → Set
 also X x p = X p || eqb p x
 
 -- some number below n is in the set; every number below n is; how many are
-unfoldable pub anyBelow : ℕ → Set → Bool
-anyBelow zero X = false
-anyBelow (suc n) X = X n || anyBelow n X
+unfoldable pub any_below : ℕ → Set → Bool
+any_below zero X = false
+any_below (suc n) X = X n || any_below n X
 
 unfoldable pub all_below : ℕ → Set → Bool
 all_below zero X = true

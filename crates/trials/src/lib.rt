@@ -1,18 +1,18 @@
 // The trial set of an insertion: its seeds, whether they are the whole of it, its growth from them, and which of its pairs begin to stand.
 ghost use Rattle.std.specs.Prelude.{◌≡◌, true, ℕ, ◌<◌, ◌≤◌, length, get_or, take};
 ghost use Rattle.bits.specs.Word.{members};
-ghost use Rattle.session.specs.Limits.{maxNodes, maxEdges, edgeNumbers};
+ghost use Rattle.session.specs.Limits.{max_nodes, max_edges, edge_numbers};
 ghost use Rattle.session.specs.Trigger.{nodes, pattern};
-ghost use Rattle.session.specs.Layout.{triggerOf, graph_of, marksOf, inLayout, below};
-ghost use Rattle.edge_indexes.specs.Indexes.{Indexed, Started, startsSize};
-ghost use Rattle.promises.specs.Standing.{trialSet, pairsOf};
-ghost use Rattle.editing.specs.Steps.{Holds, freshPairs, seedsOf, freshAmong, aloneAt, markedPairs};
+ghost use Rattle.session.specs.Layout.{trigger_of, graph_of, marks_of, in_layout, below};
+ghost use Rattle.edge_indexes.specs.Indexes.{Indexed, Started, starts_size};
+ghost use Rattle.promises.specs.Standing.{trial_set, pairs_of};
+ghost use Rattle.editing.specs.Steps.{Holds, fresh_pairs, seeds_of, fresh_among, alone_at, marked_pairs};
 ghost use Rattle.simulation.specs.System.{refined};
 ghost use Rattle.simulation.specs.Pattern.{system};
 ghost use Rattle.simulation.specs.Ordered.{ascends};
 ghost use Rattle.pair_tables.specs.Tables.{marked};
 ghost use Rattle.session_parts.specs.Inside.{Inside};
-ghost use Rattle.session_parts.specs.Admission.{turnedIn};
+ghost use Rattle.session_parts.specs.Admission.{turned_in};
 
 use edge_indexes::{STARTS, index_starts};
 use editing::refine_at;
@@ -25,8 +25,8 @@ use worklist::{WAITING_WORDS, call_all, put_in};
 
 // The states that begin the trial set at the edge's start.
 pub fn seeds_at(session: &[u32], start: u32, end: u32) -> u32
-    requires { (inLayout session.now ≡ true) × (start < nodes (graph_of session.now)) × (end < nodes (graph_of session.now)) }
-    ensures { members result ≡ seedsOf session.now start end }
+    requires { (in_layout session.now ≡ true) × (start < nodes (graph_of session.now)) × (end < nodes (graph_of session.now)) }
+    ensures { members result ≡ seeds_of session.now start end }
 {
     let marks = marks_of(session);
     let turned = turned_of(session);
@@ -38,8 +38,8 @@ pub fn seeds_at(session: &[u32], start: u32, end: u32) -> u32
 
 // Puts the pairs that are admitted and not marked into a table that is zero.
 pub fn fresh_pairs(session: &[u32], table: &mut [u32])
-    requires { (inLayout session.now ≡ true) × (length table.old ≡ maxNodes) × ((v : ℕ) → get_or table.old v 0 ≡ 0) }
-    ensures { Holds session.now (freshPairs session.now) table.new }
+    requires { (in_layout session.now ≡ true) × (length table.old ≡ max_nodes) × ((v : ℕ) → get_or table.old v 0 ≡ 0) }
+    ensures { Holds session.now (fresh_pairs session.now) table.new }
 {
     admitted_pairs(session, turned_of(session), table);
     take_away(table, marks_of(session));
@@ -54,9 +54,9 @@ pub fn try_pairs(
     nexts: &[u32],
     table: &mut [u32],
 )
-    requires session_value { (inLayout session.now ≡ true) × (start < nodes (graph_of session.now)) × (length table.old ≡ maxNodes) × ((v : ℕ) → get_or table.old v 0 ≡ 0) }
-    requires indexed { Indexed (graph_of session.now).edges heads.now nexts.now × ((b : ℕ) × (members seeds ≡ seedsOf session.now start b)) }
-    ensures { (b : ℕ) → members seeds ≡ seedsOf session.now start b → Holds session.now (trialSet (triggerOf session.now) (graph_of session.now) (marksOf session.now) start b) table.new }
+    requires session_value { (in_layout session.now ≡ true) × (start < nodes (graph_of session.now)) × (length table.old ≡ max_nodes) × ((v : ℕ) → get_or table.old v 0 ≡ 0) }
+    requires indexed { Indexed (graph_of session.now).edges heads.now nexts.now × ((b : ℕ) × (members seeds ≡ seeds_of session.now start b)) }
+    ensures { (b : ℕ) → members seeds ≡ seeds_of session.now start b → Holds session.now (trial_set (trigger_of session.now) (graph_of session.now) (marks_of session.now) start b) table.new }
 {
     let nodes = session[1] as usize;
     let mut fresh = [0u32; session::MAX_NODES];
@@ -78,8 +78,8 @@ pub fn try_pairs(
 
 // Whether a state of the word is fresh at the node.
 pub fn fresh_among(session: &[u32], turned: u32, word: u32, node: u32) -> bool
-    requires { (inLayout session.now ≡ true) × (members turned ≡ turnedIn session.now) × (node < nodes (graph_of session.now)) }
-    ensures { result ≡ freshAmong session.now word node }
+    requires { (in_layout session.now ≡ true) × (members turned ≡ turned_in session.now) × (node < nodes (graph_of session.now)) }
+    ensures { result ≡ fresh_among session.now word node }
 {
     let marks = marks_of(session);
     let able = admitting(session, turned, node);
@@ -88,8 +88,8 @@ pub fn fresh_among(session: &[u32], turned: u32, word: u32, node: u32) -> bool
 
 // Whether no node with an edge to the start has such a state.
 pub fn alone(session: &[u32], start: u32, word: u32) -> bool
-    requires { inLayout session.now ≡ true }
-    ensures { result ≡ aloneAt session.now start word }
+    requires { in_layout session.now ≡ true }
+    ensures { result ≡ alone_at session.now start word }
 {
     let edges = edges_of(session);
     let turned = turned_of(session);
@@ -111,9 +111,9 @@ pub const FEW: u32 = 32;
 
 // Builds the index of first edges, in a table that is zero, where there are more than a few trials; how many places it has.
 pub fn starts_for(trials: u32, edges: &[u32], firsts: &mut [u32]) -> usize
-    requires edges_len_bound { (length edges.now ≤ maxEdges) × (ascends edges.now ≡ true) × (below edgeNumbers edges.now ≡ true) × (length firsts.old ≡ startsSize) }
+    requires edges_len_bound { (length edges.now ≤ max_edges) × (ascends edges.now ≡ true) × (below edge_numbers edges.now ≡ true) × (length firsts.old ≡ starts_size) }
     requires by_index { (v : ℕ) → get_or firsts.old v 0 ≡ 0 }
-    ensures { (result ≤ startsSize) × ((result ≡ 0 → ⊥) → Started edges.now (take result firsts.new)) }
+    ensures { (result ≤ starts_size) × ((result ≡ 0 → ⊥) → Started edges.now (take result firsts.new)) }
 {
     if trials <= FEW {
         return 0;
@@ -124,9 +124,9 @@ pub fn starts_for(trials: u32, edges: &[u32], firsts: &mut [u32]) -> usize
 
 // Refines a table of trials beside the marks: what is left begins to stand. Their number only decides whether an index is built.
 pub fn begin(session: &[u32], trials: u32, heads: &[u32], nexts: &[u32], table: &mut [u32])
-    requires session_value { (inLayout session.now ≡ true) × (length table.old ≡ maxNodes) × Inside session.now table.old }
+    requires session_value { (in_layout session.now ≡ true) × (length table.old ≡ max_nodes) × Inside session.now table.old }
     requires indexed { Indexed (graph_of session.now).edges heads.now nexts.now }
-    ensures { Holds session.now (refined (system (pattern (triggerOf session.now) (graph_of session.now))) (markedPairs session.now) (pairsOf (triggerOf session.now) (graph_of session.now) (marked table.old))) table.new }
+    ensures { Holds session.now (refined (system (pattern (trigger_of session.now) (graph_of session.now))) (marked_pairs session.now) (pairs_of (trigger_of session.now) (graph_of session.now) (marked table.old))) table.new }
 {
     let nodes = session[1] as usize;
     let mut waiting = [0u32; WAITING_WORDS];
@@ -153,9 +153,9 @@ pub fn begin(session: &[u32], trials: u32, heads: &[u32], nexts: &[u32], table: 
 
 // Refines trials that are all at one node beside the marks: what is left begins to stand.
 pub fn begin_at(session: &[u32], node: u32, table: &mut [u32])
-    requires session_value { (inLayout session.now ≡ true) × (node < nodes (graph_of session.now)) × (length table.old ≡ maxNodes) × Inside session.now table.old }
+    requires session_value { (in_layout session.now ≡ true) × (node < nodes (graph_of session.now)) × (length table.old ≡ max_nodes) × Inside session.now table.old }
     requires by_index { (v : ℕ) → (v ≡ node → ⊥) → get_or table.old v 0 ≡ 0 }
-    ensures { Holds session.now (refined (system (pattern (triggerOf session.now) (graph_of session.now))) (markedPairs session.now) (pairsOf (triggerOf session.now) (graph_of session.now) (marked table.old))) table.new }
+    ensures { Holds session.now (refined (system (pattern (trigger_of session.now) (graph_of session.now))) (marked_pairs session.now) (pairs_of (trigger_of session.now) (graph_of session.now) (marked table.old))) table.new }
 {
     refine_at(session, node, marks_of(session), table);
 }

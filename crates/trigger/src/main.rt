@@ -1,12 +1,12 @@
 // Frames from standard input, their answers to standard output: read, answer, write. Where a line ends, what it says and what it is answered
 // is the library's to tell.
 ghost use Rattle.std.specs.Prelude.{◌≡◌, ℕ, ◌≤◌, true, List, [], length, take};
-ghost use Rattle.session.specs.Limits.{maxChanges};
+ghost use Rattle.session.specs.Limits.{max_changes};
 ghost use Rattle.promises.specs.Rules.{verdict};
-ghost use Rattle.frames.specs.Lines.{frontSize};
-ghost use Rattle.frames.specs.Machine.{memory, outputSize};
+ghost use Rattle.frames.specs.Lines.{front_size};
+ghost use Rattle.frames.specs.Machine.{memory, output_size};
 ghost use Rattle.frames.specs.Program.{Fresh};
-ghost use Rattle.frames.specs.Blocks.{inputRules, InputCalls, Leads};
+ghost use Rattle.frames.specs.Blocks.{input_rules, InputCalls, Leads};
 
 use frame_input::{answer_block, answer_end};
 use frame_machine::{COUNTS_SIZE, WORDS_SIZE};
@@ -32,8 +32,8 @@ fn answer_whole(
     block: &[u8],
     out: &mut [u8],
 ) -> Begun
-    requires { verdict (inputRules (memory counts.old words.old session.old changes.old out.old) front.old) ≡ 0 }
-    ensures { (verdict (inputRules (memory counts.new words.new session.new changes.new out.new) front.new) ≡ 0) × (result.written ≡ true → (output : List ℕ) × Leads (memory counts.old words.old session.old changes.old out.old) (take begun front.old) block.now output (memory counts.new words.new session.new changes.new out.new) (take result.used front.new)) }
+    requires { verdict (input_rules (memory counts.old words.old session.old changes.old out.old) front.old) ≡ 0 }
+    ensures { (verdict (input_rules (memory counts.new words.new session.new changes.new out.new) front.new) ≡ 0) × (result.written ≡ true → (output : List ℕ) × Leads (memory counts.old words.old session.old changes.old out.old) (take begun front.old) block.now output (memory counts.new words.new session.new changes.new out.new) (take result.used front.new)) }
 {
     let mut at = 0;
     let mut line = begun;
@@ -70,8 +70,8 @@ fn answer_blocks(
     block: &mut [u8],
     out: &mut [u8],
 ) -> Begun
-    requires { verdict (inputRules (memory counts.old words.old session.old changes.old out.old) front.old) ≡ 0 }
-    ensures { (verdict (inputRules (memory counts.new words.new session.new changes.new out.new) front.new) ≡ 0) × (result.written ≡ true → (bytes : List ℕ) × (output : List ℕ) × Leads (memory counts.old words.old session.old changes.old out.old) [] bytes output (memory counts.new words.new session.new changes.new out.new) (take result.used front.new)) }
+    requires { verdict (input_rules (memory counts.old words.old session.old changes.old out.old) front.old) ≡ 0 }
+    ensures { (verdict (input_rules (memory counts.new words.new session.new changes.new out.new) front.new) ≡ 0) × (result.written ≡ true → (bytes : List ℕ) × (output : List ℕ) × Leads (memory counts.old words.old session.old changes.old out.old) [] bytes output (memory counts.new words.new session.new changes.new out.new) (take result.used front.new)) }
 {
     let mut begun = Begun {
         used: 0,
@@ -108,7 +108,7 @@ fn answer_input(
     block: &mut [u8],
     out: &mut [u8],
 ) -> bool
-    requires { Fresh (memory counts.old words.old session.old changes.old out.old) × (maxChanges ≤ length changes.old) × (outputSize ≤ length out.old) × (frontSize ≤ length front.old) }
+    requires { Fresh (memory counts.old words.old session.old changes.old out.old) × (max_changes ≤ length changes.old) × (output_size ≤ length out.old) × (front_size ≤ length front.old) }
     ensures { result ≡ true → (bytes : List ℕ) × (output : List ℕ) × InputCalls (memory counts.old words.old session.old changes.old out.old) [] bytes output }
 {
     let begun = answer_blocks(counts, words, session, changes, front, block, out);

@@ -1,10 +1,10 @@
 // The engine for callers in C. A slice is a pointer and a length there, and an answer is one number: include/trigger_engine.h says
 // how. No call asks anything of its numbers.
 ghost use Rattle.std.specs.Prelude.{◌≡◌};
-ghost use Rattle.session.specs.Limits.{fixedSize, maxChanges};
+ghost use Rattle.session.specs.Limits.{fixed_size, max_changes};
 ghost use Rattle.promises.specs.Rules.{given};
 ghost use Rattle.promises.specs.Promises.{Loaded, Inserted, Deleted, Matches, Fires};
-ghost use Rattle.answer_numbers.specs.Packed.{Packs, answerNumber, standingNumber, firingNumber, OrderWritten};
+ghost use Rattle.answer_numbers.specs.Packed.{Packs, answer_number, standing_number, firing_number, OrderWritten};
 
 use answer_numbers::{answer_number, fill_front, firing_number, order_number, standing_number};
 use promises::OrderAnswer;
@@ -12,7 +12,7 @@ use promises::OrderAnswer;
 // How many words a session has.
 #[unsafe(no_mangle)]
 pub extern "C" fn trigger_session_words() -> usize
-    ensures { result ≡ fixedSize }
+    ensures { result ≡ fixed_size }
 {
     session::FIXED_SIZE
 }
@@ -20,7 +20,7 @@ pub extern "C" fn trigger_session_words() -> usize
 // How many places the changes of one call may need.
 #[unsafe(no_mangle)]
 pub extern "C" fn trigger_change_places() -> usize
-    ensures { result ≡ maxChanges }
+    ensures { result ≡ max_changes }
 {
     session::MAX_CHANGES
 }
@@ -38,7 +38,7 @@ pub extern "C" fn trigger_load(
     ends: &[u32],
     changes: &mut [i32],
 ) -> u64
-    ensures { Packs answerNumber (λ a. Loaded (given masks.now values.now links.now inverted samples.now starts.now ends.now) session.old changes.old a session.new changes.new) result }
+    ensures { Packs answer_number (λ a. Loaded (given masks.now values.now links.now inverted samples.now starts.now ends.now) session.old changes.old a session.new changes.new) result }
 {
     answer_number(matching::load(
         session, masks, values, links, inverted, samples, starts, ends, changes,
@@ -53,7 +53,7 @@ pub extern "C" fn trigger_insert(
     end: u32,
     changes: &mut [i32],
 ) -> u64
-    ensures { Packs answerNumber (λ a. Inserted session.old start end changes.old a session.new changes.new) result }
+    ensures { Packs answer_number (λ a. Inserted session.old start end changes.old a session.new changes.new) result }
 {
     answer_number(matching::insert(session, start, end, changes))
 }
@@ -66,7 +66,7 @@ pub extern "C" fn trigger_delete(
     end: u32,
     changes: &mut [i32],
 ) -> u64
-    ensures { Packs answerNumber (λ a. Deleted session.old start end changes.old a session.new changes.new) result }
+    ensures { Packs answer_number (λ a. Deleted session.old start end changes.old a session.new changes.new) result }
 {
     answer_number(matching::delete(session, start, end, changes))
 }
@@ -74,7 +74,7 @@ pub extern "C" fn trigger_delete(
 // Whether a state stands at a node, by the mark that is held.
 #[unsafe(no_mangle)]
 pub extern "C" fn trigger_matches(session: &[u32], state: u32, node: u32) -> u64
-    ensures { Packs standingNumber (Matches session.now state node) result }
+    ensures { Packs standing_number (Matches session.now state node) result }
 {
     standing_number(matching::matches(session, state, node))
 }
@@ -82,7 +82,7 @@ pub extern "C" fn trigger_matches(session: &[u32], state: u32, node: u32) -> u64
 // Whether the trigger fires, by the marks that are held.
 #[unsafe(no_mangle)]
 pub extern "C" fn trigger_fires(session: &[u32]) -> u64
-    ensures { Packs firingNumber (Fires session.now) result }
+    ensures { Packs firing_number (Fires session.now) result }
 {
     firing_number(matching::fires(session))
 }

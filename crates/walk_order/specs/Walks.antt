@@ -3,16 +3,16 @@ use Rattle.std.specs.Prelude.{ℕ, ◌+◌, ◌<◌, ◌≤◌, ◌≡◌, false
 use Rattle.simulation.specs.Sets.{also, count}
 use Rattle.simulation.specs.Ordered.{elem}
 use Rattle.bits.specs.Word.{members}
-use Rattle.session.specs.Reached.{linkedBy}
+use Rattle.session.specs.Reached.{linked_by}
 use Rattle.session.specs.Layout.{section}
 use Rattle.listing.specs.Order.{fold, visit}
 use Rattle.walk_order.specs.declared.Walk.{Walk}
-use Rattle.session.specs.Limits.{maxStates}
+use Rattle.session.specs.Limits.{max_states}
 
 -- the walk holds this list of indices: their set, their numbers with zeros after them, and how many they are
 pub record WalkOf (xs : List ℕ) (w : Walk) : Type 0 where
   pub seen : members w.visited ≡ (λ u. elem u xs)
-  pub numbers : w.states ≡ section maxStates (map (λ u. u + 1) xs)
+  pub numbers : w.states ≡ section max_states (map (λ u. u + 1) xs)
   pub long : w.len ≡ length xs
 
 -- as many are written as were visited of the states below n
@@ -32,7 +32,7 @@ pub record Written (state : ℕ) (w w' : Walk) : Type 0 where
 -- a state of n that the walk can visit
 pub record Ready (n state : ℕ) (w : Walk) : Type 0 where
   pub inside : state < n
-  pub few : n ≤ maxStates
+  pub few : n ≤ max_states
   pub unseen : members w.visited state ≡ false
   pub counted : Counted n w
 
@@ -41,7 +41,7 @@ pub record Visited (links : List ℕ) (state : ℕ) (w w' : Walk) : Type 0 where
   pub counted : Counted (length links) w'
   pub longer : w.len < w'.len
   pub holds : (xs : List ℕ) (depth : ℕ) → WalkOf xs w → length links ≤ depth + length xs
-      → WalkOf (visit (linkedBy links) depth state xs) w'
+      → WalkOf (visit (linked_by links) depth state xs) w'
 
 -- each state below n that is not written, in turn
 abbrev pub rest : ℕ → List ℕ → List ℕ

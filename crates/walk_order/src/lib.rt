@@ -2,9 +2,9 @@
 ghost use Rattle.std.specs.Prelude.{◌≡◌, List, ℕ, ◌<◌, ◌≤◌, length};
 ghost use Rattle.session.specs.Layout.{section};
 ghost use Rattle.listing.specs.Order.{order};
-ghost use Rattle.session.specs.Reached.{linkedBy};
+ghost use Rattle.session.specs.Reached.{linked_by};
 ghost use Rattle.walk_order.specs.Walks.{WalkOf, Counted, Written, Ready, Visited, rest};
-ghost use Rattle.session.specs.Limits.{maxStates};
+ghost use Rattle.session.specs.Limits.{max_states};
 
 use session::MAX_STATES;
 
@@ -18,7 +18,7 @@ pub struct Walk {
 
 // The walk with the state visited and written.
 pub fn written(walk: Walk, state: u32) -> Walk
-    requires { (walk.len < maxStates) × (state < maxStates) }
+    requires { (walk.len < max_states) × (state < max_states) }
     ensures { Written state walk result }
 {
     let mut w = walk;
@@ -52,7 +52,7 @@ pub fn visit(links: &[u32], state: u32, walk: Walk) -> Walk
 
 // The states that the visit of State One does not reach follow in ascending number.
 pub fn followed(states: u32, walk: Walk) -> Walk
-    requires { (states ≤ maxStates) × Counted states walk }
+    requires { (states ≤ max_states) × Counted states walk }
     ensures { (xs : List ℕ) → WalkOf xs walk → WalkOf (rest states xs) result }
 {
     let mut w = walk;
@@ -69,8 +69,8 @@ pub fn followed(states: u32, walk: Walk) -> Walk
 
 // The numbers of the states in depth-first order, zeros after them.
 pub fn ordered(links: &[u32]) -> [u8; MAX_STATES]
-    requires { (0 < length links.now) × (length links.now ≤ maxStates) }
-    ensures { result ≡ section maxStates (order (linkedBy links.now)) }
+    requires { (0 < length links.now) × (length links.now ≤ max_states) }
+    ensures { result ≡ section max_states (order (linked_by links.now)) }
 {
     let start = Walk {
         visited: 0,

@@ -13,49 +13,49 @@ use Rattle.simulation.specs.Sets.{Set, also, without}
 use Rattle.simulation.specs.Search.{first}
 use Rattle.simulation.proofs.Sets.{clash, split, same}
 use Rattle.simulation.proofs.Search.{lt-or-le, first-le, first-before, first-at}
-use Rattle.bits.specs.Word.{members, setBits}
+use Rattle.bits.specs.Word.{members, set_bits}
 use Rattle.bits.proofs.Words.{zero-members}
 use Rattle.bits.proofs.Counts.{Lowest}
-use Rattle.worklist.specs.Waiting.{waits, waitingWords}
-use Rattle.session.specs.Limits.{maxNodes}
+use Rattle.worklist.specs.Waiting.{waits, waiting_words}
+use Rattle.session.specs.Limits.{max_nodes}
 
 -- ---- one node put in or taken out: its word is written
 
-module _ (ws : List ℕ) (v w : ℕ) (l : v / setBits < length ws) where
+module _ (ws : List ℕ) (v w : ℕ) (l : v / set_bits < length ws) where
   waits-set : (B : Bool → Bool → Bool) → ((b : Bool) → B b false ≡ b)
-      → members w ≡ (λ i. B (members (get_or ws (v / setBits) 0) i) (eqb i (v % setBits)))
-      → waits (set ws (v / setBits) w) ≡ (λ x. B (waits ws x) (eqb x v))
+      → members w ≡ (λ i. B (members (get_or ws (v / set_bits) 0) i) (eqb i (v % set_bits)))
+      → waits (set ws (v / set_bits) w) ≡ (λ x. B (waits ws x) (eqb x v))
   waits-set B still e =
       fun_ext
       (λ x.
       ⊎_elim
-      (λ (t : eqb (x / setBits) (v / setBits) ≡ true). here x (eqb-true (x / setBits) (v / setBits) t))
-      (λ (t : eqb (x / setBits) (v / setBits) ≡ false). away x (eqb-false (x / setBits) (v / setBits) t))
-      (split (eqb (x / setBits) (v / setBits))))
+      (λ (t : eqb (x / set_bits) (v / set_bits) ≡ true). here x (eqb-true (x / set_bits) (v / set_bits) t))
+      (λ (t : eqb (x / set_bits) (v / set_bits) ≡ false). away x (eqb-false (x / set_bits) (v / set_bits) t))
+      (split (eqb (x / set_bits) (v / set_bits))))
     where
-      here : (x : ℕ) → x / setBits ≡ v / setBits → waits (set ws (v / setBits) w) x ≡ B (waits ws x) (eqb x v)
+      here : (x : ℕ) → x / set_bits ≡ v / set_bits → waits (set ws (v / set_bits) w) x ≡ B (waits ws x) (eqb x v)
       here x h =
-          let word : get_or (set ws (v / setBits) w) (x / setBits) 0 ≡ w =
-          ap (λ (k : ℕ). get_or (set ws (v / setBits) w) k 0) h ∙ get_or-set_same ws (v / setBits) w 0 l in
-          let node : eqb (x % setBits) (v % setBits) ≡ eqb x v =
-          same (eqb (x % setBits) (v % setBits)) (eqb x v)
-          (λ t. let k = eqb-true (x % setBits) (v % setBits) t in eq-eqb x v (omega arith))
-          (λ t. let k = eqb-true x v t in eq-eqb (x % setBits) (v % setBits) (omega arith)) in
-          ap (λ (k : ℕ). members k (x % setBits)) word
-          ∙ ap (λ (X : Set). X (x % setBits)) e
+          let word : get_or (set ws (v / set_bits) w) (x / set_bits) 0 ≡ w =
+          ap (λ (k : ℕ). get_or (set ws (v / set_bits) w) k 0) h ∙ get_or-set_same ws (v / set_bits) w 0 l in
+          let node : eqb (x % set_bits) (v % set_bits) ≡ eqb x v =
+          same (eqb (x % set_bits) (v % set_bits)) (eqb x v)
+          (λ t. let k = eqb-true (x % set_bits) (v % set_bits) t in eq-eqb x v (omega arith))
+          (λ t. let k = eqb-true x v t in eq-eqb (x % set_bits) (v % set_bits) (omega arith)) in
+          ap (λ (k : ℕ). members k (x % set_bits)) word
+          ∙ ap (λ (X : Set). X (x % set_bits)) e
           ∙ rw (node, h)
 
-      away : (x : ℕ) → (x / setBits ≡ v / setBits → ⊥) → waits (set ws (v / setBits) w) x ≡ B (waits ws x) (eqb x v)
+      away : (x : ℕ) → (x / set_bits ≡ v / set_bits → ⊥) → waits (set ws (v / set_bits) w) x ≡ B (waits ws x) (eqb x v)
       away x h =
           let other : eqb x v ≡ false = ne_eqb x v (λ (k : x ≡ v). h (omega arith)) in
-          ap (λ (k : ℕ). members k (x % setBits)) (get_or-set_other ws (v / setBits) (x / setBits) w 0 h)
+          ap (λ (k : ℕ). members k (x % set_bits)) (get_or-set_other ws (v / set_bits) (x / set_bits) w 0 h)
           ∙ rw other (sym (still (waits ws x)))
 
-  pub waits-also : members w ≡ also (members (get_or ws (v / setBits) 0)) (v % setBits) → waits (set ws (v / setBits) w) ≡ also (waits ws) v
+  pub waits-also : members w ≡ also (members (get_or ws (v / set_bits) 0)) (v % set_bits) → waits (set ws (v / set_bits) w) ≡ also (waits ws) v
   waits-also e = waits-set ◌||◌ or-false e
 
-  pub waits-without : members w ≡ without (members (get_or ws (v / setBits) 0)) (v % setBits)
-      → waits (set ws (v / setBits) w) ≡ without (waits ws) v
+  pub waits-without : members w ≡ without (members (get_or ws (v / set_bits) 0)) (v % set_bits)
+      → waits (set ws (v / set_bits) w) ≡ without (waits ws) v
   waits-without e = waits-set (λ b t. b && not t) and-true e
 
 -- ---- the lowest
@@ -76,35 +76,35 @@ first-is P n r h at before =
 abbrev pub Idle : List ℕ → ℕ → Type 0
 Idle ws v = (k : ℕ) → k < v → waits ws k ≡ false
 
-module _ (ws : List ℕ) (i : ℕ) (idle : Idle ws (i * setBits)) where
+module _ (ws : List ℕ) (i : ℕ) (idle : Idle ws (i * set_bits)) where
   -- a word that is zero
-  pub idle-more : get_or ws i 0 ≡ 0 → Idle ws ((i + 1) * setBits)
-  idle-more e k l =
+  pub idle_more : get_or ws i 0 ≡ 0 → Idle ws ((i + 1) * set_bits)
+  idle_more e k l =
       ⊎_elim
-      (λ (a : k < i * setBits). idle k a)
-      (λ (a : i * setBits ≤ k).
-      let at : k / setBits ≡ i = omega arith in
-      rw (at, e) (zero-members (k % setBits)))
-      (lt-or-le k (i * setBits))
+      (λ (a : k < i * set_bits). idle k a)
+      (λ (a : i * set_bits ≤ k).
+      let at : k / set_bits ≡ i = omega arith in
+      rw (at, e) (zero-members (k % set_bits)))
+      (lt-or-le k (i * set_bits))
 
   -- the word i has a lowest member
-  pub waits-lowest : (r : ℕ) → i < waitingWords → Lowest setBits (get_or ws i 0) r → first (waits ws) 0 maxNodes ≡ i * setBits + r
+  pub waits-lowest : (r : ℕ) → i < waiting_words → Lowest set_bits (get_or ws i 0) r → first (waits ws) 0 max_nodes ≡ i * set_bits + r
   waits-lowest r h low =
-      first-is (waits ws) maxNodes (i * setBits + r) (omega (arith, low.0))
+      first-is (waits ws) max_nodes (i * set_bits + r) (omega (arith, low.0))
       (λ l. at r low.0 ∙ low.1)
       (λ k l.
       ⊎_elim
-      (λ (a : k < i * setBits). idle k a)
-      (λ (a : i * setBits ≤ k).
-      let word : k / setBits ≡ i = omega (arith, low.0) in
-      ap (λ (j : ℕ). members (get_or ws j 0) (k % setBits)) word ∙ low.2 (k % setBits) (omega (arith, low.0)))
-      (lt-or-le k (i * setBits)))
+      (λ (a : k < i * set_bits). idle k a)
+      (λ (a : i * set_bits ≤ k).
+      let word : k / set_bits ≡ i = omega (arith, low.0) in
+      ap (λ (j : ℕ). members (get_or ws j 0) (k % set_bits)) word ∙ low.2 (k % set_bits) (omega (arith, low.0)))
+      (lt-or-le k (i * set_bits)))
     where
-      at : (x : ℕ) → x < setBits → waits ws (i * setBits + x) ≡ members (get_or ws i 0) x
+      at : (x : ℕ) → x < set_bits → waits ws (i * set_bits + x) ≡ members (get_or ws i 0) x
       at x l =
-          let word : (i * setBits + x) / setBits ≡ i = omega arith in
-          let bit : (i * setBits + x) % setBits ≡ x = omega arith in
+          let word : (i * set_bits + x) / set_bits ≡ i = omega arith in
+          let bit : (i * set_bits + x) % set_bits ≡ x = omega arith in
           rw (word, bit)
 
-pub waits-none : (ws : List ℕ) → Idle ws maxNodes → first (waits ws) 0 maxNodes ≡ maxNodes
-waits-none ws idle = first-is (waits ws) maxNodes maxNodes (omega arith) (λ l. absurd (omega arith)) idle
+pub waits-none : (ws : List ℕ) → Idle ws max_nodes → first (waits ws) 0 max_nodes ≡ max_nodes
+waits-none ws idle = first-is (waits ws) max_nodes max_nodes (omega arith) (λ l. absurd (omega arith)) idle

@@ -2,11 +2,11 @@
 ghost use Rattle.std.specs.Prelude.{◌≡◌, true, ◌&&◌, ◌||◌, not, ℕ, ◌/◌, ◌%◌, ◌<◌, ◌≤◌, eqb, length, get_or};
 ghost use Rattle.simulation.specs.Sets.{also, without};
 ghost use Rattle.simulation.specs.Search.{first};
-ghost use Rattle.bits.specs.Word.{overlaps, members, setBits};
-ghost use Rattle.session.specs.Limits.{maxEdges, maxNodes, edgeNumbers};
+ghost use Rattle.bits.specs.Word.{overlaps, members, set_bits};
+ghost use Rattle.session.specs.Limits.{max_edges, max_nodes, edge_numbers};
 ghost use Rattle.session.specs.Layout.{below};
 ghost use Rattle.edge_indexes.specs.Indexes.{Indexed, predecessors};
-ghost use Rattle.worklist.specs.Waiting.{waits, waitingWords};
+ghost use Rattle.worklist.specs.Waiting.{waits, waiting_words};
 
 use bits::SET_BITS;
 
@@ -15,24 +15,24 @@ pub const WAITING_WORDS: usize = session::MAX_NODES / SET_BITS;
 
 // Puts a node in.
 pub fn put_in(waiting: &mut [u32], node: usize)
-    requires { (length waiting.old ≡ waitingWords) × (node < maxNodes) }
-    ensures { (length waiting.new ≡ waitingWords) × (waits waiting.new ≡ also (waits waiting.old) node) }
+    requires { (length waiting.old ≡ waiting_words) × (node < max_nodes) }
+    ensures { (length waiting.new ≡ waiting_words) × (waits waiting.new ≡ also (waits waiting.old) node) }
 {
     waiting[node / SET_BITS] = bits::added(waiting[node / SET_BITS], (node % SET_BITS) as u32);
 }
 
 // Takes a node out.
 pub fn take_out(waiting: &mut [u32], node: usize)
-    requires { (length waiting.old ≡ waitingWords) × (node < maxNodes) }
-    ensures { (length waiting.new ≡ waitingWords) × (waits waiting.new ≡ without (waits waiting.old) node) }
+    requires { (length waiting.old ≡ waiting_words) × (node < max_nodes) }
+    ensures { (length waiting.new ≡ waiting_words) × (waits waiting.new ≡ without (waits waiting.old) node) }
 {
     waiting[node / SET_BITS] = bits::removed(waiting[node / SET_BITS], (node % SET_BITS) as u32);
 }
 
 // The lowest node that waits, and the number of nodes where none does.
 pub fn lowest_in(waiting: &[u32]) -> usize
-    requires { length waiting.now ≡ waitingWords }
-    ensures { result ≡ first (waits waiting.now) 0 maxNodes }
+    requires { length waiting.now ≡ waiting_words }
+    ensures { result ≡ first (waits waiting.now) 0 max_nodes }
 {
     let mut i = 0;
     while i < WAITING_WORDS {
@@ -55,9 +55,9 @@ pub fn call_in_by_index(
     table: &[u32],
     word: u32,
 )
-    requires waiting_len { (length waiting.old ≡ waitingWords) × (node < maxNodes) × (length edges.now ≤ maxEdges) × (length table.now ≡ maxNodes) }
-    requires edges_value { (below edgeNumbers edges.now ≡ true) × Indexed edges.now heads.now nexts.now }
-    ensures { (length waiting.new ≡ waitingWords) × (waits waiting.new ≡ (λ w. waits waiting.old w || (predecessors edges.now node w && overlaps (get_or table.now w 0) word))) }
+    requires waiting_len { (length waiting.old ≡ waiting_words) × (node < max_nodes) × (length edges.now ≤ max_edges) × (length table.now ≡ max_nodes) }
+    requires edges_value { (below edge_numbers edges.now ≡ true) × Indexed edges.now heads.now nexts.now }
+    ensures { (length waiting.new ≡ waiting_words) × (waits waiting.new ≡ (λ w. waits waiting.old w || (predecessors edges.now node w && overlaps (get_or table.now w 0) word))) }
 {
     let mut next = heads[node] as usize;
     while next != 0 {
@@ -72,8 +72,8 @@ pub fn call_in_by_index(
 
 // Puts the start of an edge in, where the edge ends at the node and the table has a state of the word at its start.
 pub fn call_one(waiting: &mut [u32], edge: u32, node: usize, table: &[u32], word: u32)
-    requires { (length waiting.old ≡ waitingWords) × (edge < edgeNumbers) × (length table.now ≡ maxNodes) }
-    ensures { (length waiting.new ≡ waitingWords) × (waits waiting.new ≡ (λ w. waits waiting.old w || ((eqb (edge % maxNodes) node && eqb (edge / maxNodes) w) && overlaps (get_or table.now w 0) word))) }
+    requires { (length waiting.old ≡ waiting_words) × (edge < edge_numbers) × (length table.now ≡ max_nodes) }
+    ensures { (length waiting.new ≡ waiting_words) × (waits waiting.new ≡ (λ w. waits waiting.old w || ((eqb (edge % max_nodes) node && eqb (edge / max_nodes) w) && overlaps (get_or table.now w 0) word))) }
 {
     if (edge % session::EDGE_BASE) as usize == node {
         let start = (edge / session::EDGE_BASE) as usize;
@@ -85,9 +85,9 @@ pub fn call_one(waiting: &mut [u32], edge: u32, node: usize, table: &[u32], word
 
 // Puts every such node in by all edges, without an index.
 pub fn call_in_by_edges(waiting: &mut [u32], edges: &[u32], node: usize, table: &[u32], word: u32)
-    requires waiting_len { (length waiting.old ≡ waitingWords) × (node < maxNodes) × (length edges.now ≤ maxEdges) × (length table.now ≡ maxNodes) }
-    requires edges_value { below edgeNumbers edges.now ≡ true }
-    ensures { (length waiting.new ≡ waitingWords) × (waits waiting.new ≡ (λ w. waits waiting.old w || (predecessors edges.now node w && overlaps (get_or table.now w 0) word))) }
+    requires waiting_len { (length waiting.old ≡ waiting_words) × (node < max_nodes) × (length edges.now ≤ max_edges) × (length table.now ≡ max_nodes) }
+    requires edges_value { below edge_numbers edges.now ≡ true }
+    ensures { (length waiting.new ≡ waiting_words) × (waits waiting.new ≡ (λ w. waits waiting.old w || (predecessors edges.now node w && overlaps (get_or table.now w 0) word))) }
 {
     let mut k = 0;
     while k < edges.len() {
@@ -106,9 +106,9 @@ pub fn call_in(
     table: &[u32],
     word: u32,
 )
-    requires waiting_len { (length waiting.old ≡ waitingWords) × (node < maxNodes) × (length edges.now ≤ maxEdges) × (length table.now ≡ maxNodes) }
-    requires edges_value { (below edgeNumbers edges.now ≡ true) × ((length heads.now ≡ 0 → ⊥) → Indexed edges.now heads.now nexts.now) }
-    ensures { (length waiting.new ≡ waitingWords) × (waits waiting.new ≡ (λ w. waits waiting.old w || (predecessors edges.now node w && overlaps (get_or table.now w 0) word))) }
+    requires waiting_len { (length waiting.old ≡ waiting_words) × (node < max_nodes) × (length edges.now ≤ max_edges) × (length table.now ≡ max_nodes) }
+    requires edges_value { (below edge_numbers edges.now ≡ true) × ((length heads.now ≡ 0 → ⊥) → Indexed edges.now heads.now nexts.now) }
+    ensures { (length waiting.new ≡ waiting_words) × (waits waiting.new ≡ (λ w. waits waiting.old w || (predecessors edges.now node w && overlaps (get_or table.now w 0) word))) }
 {
     if heads.len() == 0 {
         call_in_by_edges(waiting, edges, node, table, word);
@@ -119,7 +119,7 @@ pub fn call_in(
 
 // The nodes of a part that have a pair, as a word: node k of the part is bit k. Each word is picked without a branch.
 pub fn held_among(part: &[u32]) -> u32
-    requires { length part.now ≡ setBits }
+    requires { length part.now ≡ set_bits }
     ensures { (k : ℕ) → members result k ≡ not (eqb (get_or part.now k 0) 0) }
 {
     let mut all = 0;
@@ -133,8 +133,8 @@ pub fn held_among(part: &[u32]) -> u32
 
 // The nodes at which the table has a pair are put in, a word of nodes at a time.
 pub fn call_all(table: &[u32], waiting: &mut [u32])
-    requires { (length table.now ≡ maxNodes) × (length waiting.old ≡ waitingWords) }
-    ensures { (length waiting.new ≡ waitingWords) × ((v : ℕ) → waits waiting.new v ≡ (waits waiting.old v || not (eqb (get_or table.now v 0) 0))) }
+    requires { (length table.now ≡ max_nodes) × (length waiting.old ≡ waiting_words) }
+    ensures { (length waiting.new ≡ waiting_words) × ((v : ℕ) → waits waiting.new v ≡ (waits waiting.old v || not (eqb (get_or table.now v 0) 0))) }
 {
     let mut i = 0;
     while i < WAITING_WORDS {

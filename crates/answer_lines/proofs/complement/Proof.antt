@@ -8,10 +8,10 @@ use lib.IntN.{ℤ, pos, nat_abs}
 use lib.Signed.{non_neg, lt_z}
 use mir.Syntax.{w32}
 use mir.ValLaws.{to_z-of_z}
-use Rattle.change_lists.proofs.Signs.{below-sign}
+use Rattle.change_lists.proofs.Signs.{below_sign}
 use Rattle.change_lists.proofs.size_of.Reads as size-of-reads
 use Rattle.frames.specs.Outputs.{complement}
-use Rattle.frames.proofs.Written.{complement-nonneg, complement-ceases}
+use Rattle.frames.proofs.Written.{complement_nonneg, complement_ceases}
 use Rattle.answer_lines.proofs.complement.Reads as reads
 use Rattle.answer_lines.proofs.complement.Lts as lts
 use Rattle.answer_lines.proofs.complement.Statement.{statement}
@@ -26,8 +26,8 @@ ceases : (c : lts.Then1 (size-of-reads.Asked, size-of-reads.Learnt) reads.Pre re
 ceases c =
     let z = c.before.before.args.change in
     let r = to_z-of_z w32 z c.before.before.ranges.change in
-    complement-ceases z c.before.type_size.result (non_neg z) (c.before.type_size.ensures ∙ ap nat_abs r) refl
-    (not-true (non_neg z) (sym (below-sign z) ∙ ap (λ (y : ℤ). lt_z y (pos 0)) (sym r) ∙ c.if1.true))
+    complement_ceases z c.before.type_size.result (non_neg z) (c.before.type_size.ensures ∙ ap nat_abs r) refl
+    (not-true (non_neg z) (sym (below_sign z) ∙ ap (λ (y : ℤ). lt_z y (pos 0)) (sym r) ∙ c.if1.true))
 
 sub-result : tie.Need-overflow-sub-result
 sub-result c = omega (arith, (ceases c).0)
@@ -42,8 +42,8 @@ returns-2 : tie.Need-returns-2
 returns-2 c =
     let z = c.before.before.args.change in
     let r = to_z-of_z w32 z c.before.before.ranges.change in
-    complement-nonneg z c.before.type_size.result (non_neg z) (c.before.type_size.ensures ∙ ap nat_abs r) refl
-    (not-false (non_neg z) (sym (below-sign z) ∙ ap (λ (y : ℤ). lt_z y (pos 0)) (sym r) ∙ c.if1.false))
+    complement_nonneg z c.before.type_size.result (non_neg z) (c.before.type_size.ensures ∙ ap nat_abs r) refl
+    (not-false (non_neg z) (sym (below_sign z) ∙ ap (λ (y : ℤ). lt_z y (pos 0)) (sym r) ∙ c.if1.false))
 
 pub complement-spec : {M : Type 1} → statement M
 complement-spec = tie.close (tie.spec size-of-requires sub-result sub-result-2 returns returns-2)

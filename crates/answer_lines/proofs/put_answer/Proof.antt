@@ -5,8 +5,8 @@ use native.Mathlib.Omega.{arith}
 use mathlib.Core.Path.{◌≡◌, sym, ◌∙◌, ap}
 use lib.ListN.{length}
 use Rattle.listing.proofs.Placing.{placed-append}
-use Rattle.promises.specs.Answers.{told, handedBack}
-use Rattle.frames.specs.Outputs.{reportLine, changeSize}
+use Rattle.promises.specs.Answers.{told, handed_back}
+use Rattle.frames.specs.Outputs.{report_line, change_size}
 use Rattle.frames.proofs.Written.{room_after}
 use Rattle.frames.proofs.Listed.{report-long}
 use Rattle.answer_lines.proofs.put_answer.Statement.{statement}
@@ -25,8 +25,8 @@ changed-part-requires : tie.Need-changed-part-requires
 changed-part-requires c κs = search rules
 
 -- the part is the list handed back
-handed : (c : tie.After-changed-part) → let a = c.before.before.before.before.before.before.before.before.before.before.before.args in c.changed-part.result.now ≡ handedBack a.room.now a.answer
-handed c = c.changed-part.ensures ∙ ap (handedBack c.before.before.before.before.before.before.before.before.before.before.before.args.room.now) (sym c.before.before.before.before.before.before.before.before.answer.given.1)
+handed : (c : tie.After-changed-part) → let a = c.before.before.before.before.before.before.before.before.before.before.before.args in c.changed-part.result.now ≡ handed_back a.room.now a.answer
+handed c = c.changed-part.ensures ∙ ap (handed_back c.before.before.before.before.before.before.before.before.before.before.before.args.room.now) (sym c.before.before.before.before.before.before.before.before.answer.given.1)
 
 put-changes-requires : tie.Need-put-changes-requires
 put-changes-requires c κs =
@@ -34,7 +34,7 @@ put-changes-requires c κs =
     let s = c.before.before.before.before.before.before.before.before.before.before.before in
     let e = ap length (handed c) in
     let v = c.before.before.before.before.before.before.before.before.answer.given.0.0 in
-    omega (arith, e, room_after s.args.out.now 0 (reportLine c.before.before.before.before.before.says.result v.trials v.changes) k.new.0 k.result (changeSize * length (handedBack s.args.room.now s.args.answer)) (omega (arith, s.requires, report-long c.before.before.before.before.before.says.result v.trials v.changes)) k.ensures)
+    omega (arith, e, room_after s.args.out.now 0 (report_line c.before.before.before.before.before.says.result v.trials v.changes) k.new.0 k.result (change_size * length (handed_back s.args.room.now s.args.answer)) (omega (arith, s.requires, report-long c.before.before.before.before.before.says.result v.trials v.changes)) k.ensures)
 
 enum-known-answer-2 : tie.Need-enum-known-answer-2
 enum-known-answer-2 c = search rules

@@ -6,8 +6,8 @@ use Rattle.listing.specs.Placed.{Placed}
 use Rattle.listing.proofs.Placing.{placed-append}
 use Rattle.frames.specs.Digits.{digits}
 use mathlib.Core.Bool.{cond}
-use Rattle.frames.specs.Outputs.{reportLine}
-use Rattle.frames.proofs.Written.{bool-number, pair-long, four-parts, room_after}
+use Rattle.frames.specs.Outputs.{report_line}
+use Rattle.frames.proofs.Written.{bool_number, pair-long, four_parts, room_after}
 use Rattle.answer_lines.proofs.put_report.Statement.{statement}
 use Rattle.answer_lines.proofs.put_report.Tie as tie
 
@@ -20,7 +20,7 @@ put-head-requires c κs = search rules
 -- the kind and the firing, as the line has them
 headed : (k : tie.After-put-head) → let s = k.before.before.before in
     Placed s.args.out.now s.args.at (digits 2 128 ++ digits 2 (cond s.args.fires 1 0)) k.put-head.new.0 k.put-head.result
-headed k = rw (bool-number k.before.before.before.args.fires) at k.put-head.ensures
+headed k = rw (bool_number k.before.before.before.args.fires) at k.put-head.ensures
 
 put-pair-requires : tie.Need-put-pair-requires
 put-pair-requires c κs =
@@ -33,10 +33,10 @@ same_length : tie.Need-same-length
 same_length c = search rules
 
 returns : tie.Need-returns
-unfolding reportLine
+unfolding report_line
 returns c =
     let s = c.before.before.before.before.before.before.before.before.before in
-    rw (← four-parts (digits 2 128) (digits 2 (cond s.args.fires 1 0)) (digits 4 s.args.trials ++ digits 4 s.args.changes) (10 ∷ []))
+    rw (← four_parts (digits 2 128) (digits 2 (cond s.args.fires 1 0)) (digits 4 s.args.trials ++ digits 4 s.args.changes) (10 ∷ []))
     (placed-append (omega (arith, s.requires)) (headed c.before.before.before.before.before.before) c.before.before.put-pair.ensures)
 
 pub put-report-spec : {M : Type 1} → statement M

@@ -5,7 +5,7 @@ use native.Mathlib.Omega.{arith}
 use lib.ListN.{length}
 use Rattle.frames.specs.Digits.{digits}
 use Rattle.frames.proofs.Written.{digits_long}
-use Rattle.frames.proofs.Listed.{Listing, listing_start, listing-next, listing-long, listing-more, listing-end}
+use Rattle.frames.proofs.Listed.{Listing, listing_start, listing_next, listing_long, listing_more, listing_end}
 use Rattle.answer_lines.proofs.put_states.Statement.{statement}
 use Rattle.answer_lines.proofs.put_states.Tie as tie
 
@@ -30,8 +30,8 @@ put-digits-requires : tie.Need-put-digits-requires invariant-loop decreases-loop
 put-digits-requires c κs =
     let s = c.before.before.before.before.before.before in
     let l = c.before.before.before.loop in
-    let near = listing-next (digits 2) 2 (digits_long 2) s.args.states.now s.args.out.now s.args.at (omega (arith, s.requires)) l.out l.next l.k l.invariant in
-    let long = listing-long (digits 2) 2 (digits_long 2) s.args.states.now s.args.out.now s.args.at (omega (arith, s.requires)) l.out l.next l.k l.invariant
+    let near = listing_next (digits 2) 2 (digits_long 2) s.args.states.now s.args.out.now s.args.at (omega (arith, s.requires)) l.out l.next l.k l.invariant in
+    let long = listing_long (digits 2) 2 (digits_long 2) s.args.states.now s.args.out.now s.args.at (omega (arith, s.requires)) l.out l.next l.k l.invariant
     (omega (arith, s.requires)) in
     (omega arith, omega (arith, s.requires, near, long))
 
@@ -46,21 +46,21 @@ loop-again c =
     let s = c.before.before.before.before.before.before.before.before.before in
     let l = c.before.before.before.before.before.before.loop in
     let p = c.before.before.put-digits in
-    listing-more (digits 2) 2 (digits_long 2) s.args.states.now s.args.out.now s.args.at (omega (arith, s.requires)) l.out l.next l.k 0
+    listing_more (digits 2) 2 (digits_long 2) s.args.states.now s.args.out.now s.args.at (omega (arith, s.requires)) l.out l.next l.k 0
     p.new.0 p.result l.invariant (omega arith) p.ensures
 
 same_length : tie.Need-same-length invariant-loop decreases-loop
 same_length c =
     let s = c.before.before.before.before in
     let l = c.before.loop in
-    listing-long (digits 2) 2 (digits_long 2) s.args.states.now s.args.out.now s.args.at (omega (arith, s.requires)) l.out l.next l.k l.invariant
+    listing_long (digits 2) 2 (digits_long 2) s.args.states.now s.args.out.now s.args.at (omega (arith, s.requires)) l.out l.next l.k l.invariant
     (omega (arith, s.requires, l.invariant.inside))
 
 returns : tie.Need-returns invariant-loop decreases-loop
 returns c =
     let s = c.before.before.before.before in
     let l = c.before.loop in
-    listing-end (digits 2) 2 (digits_long 2) s.args.states.now s.args.out.now s.args.at (omega (arith, s.requires)) l.out l.next l.k l.invariant (omega arith)
+    listing_end (digits 2) 2 (digits_long 2) s.args.states.now s.args.out.now s.args.at (omega (arith, s.requires)) l.out l.next l.k l.invariant (omega arith)
 
 pub put-states-spec : {M : Type 1} → statement M
 put-states-spec =

@@ -2,7 +2,7 @@
 use borrow.Author.Rules.{rules}
 use mathlib.Core.Path.{sym, ◌∙◌, ap}
 use mathlib.Core.Bool.{Bool}
-use Rattle.answer_numbers.specs.Packed.{fields, answerNumber}
+use Rattle.answer_numbers.specs.Packed.{fields, answer_number}
 use Rattle.answer_numbers.proofs.answer_number.Statement.{statement}
 use Rattle.answer_numbers.proofs.answer_number.Tie as tie
 
@@ -26,7 +26,7 @@ returns c =
     let v = c.before.before.before.answer.given.0.0 in
     c.fields.ensures
     ∙ ap (λ (flag : Bool). fields flag v.trials v.changes) c.before.says.ensures
-    ∙ sym (ap answerNumber c.before.before.before.answer.given.1)
+    ∙ sym (ap answer_number c.before.before.before.answer.given.1)
 
 returns-2 : tie.Need-returns-2
 returns-2 c = search rules

@@ -8,13 +8,13 @@ use Rattle.session.specs.Layout.{section}
 use Rattle.sections.proofs.Fills.{Filled, fill_start, fill_step}
 use Rattle.answer_numbers.proofs.fill_front.Statement.{statement}
 use Rattle.answer_numbers.proofs.fill_front.Tie as tie
-use Rattle.session.specs.Limits.{maxStates}
+use Rattle.session.specs.Limits.{max_states}
 
 abbrev invariant-loop : tie.invariant-loop
-invariant-loop places₀ order i₀ places i = (i ≤ maxStates) × Filled (λ j. get_or order j 0) places₀ places i
+invariant-loop places₀ order i₀ places i = (i ≤ max_states) × Filled (λ j. get_or order j 0) places₀ places i
 
 abbrev decreases-loop : tie.decreases-loop
-decreases-loop places₀ order i₀ places i = maxStates - i
+decreases-loop places₀ order i₀ places i = max_states - i
 
 loop-holds : tie.Need-loop-init invariant-loop decreases-loop
 loop-holds c = (omega arith, fill_start (λ j. get_or c.args.order.now j 0) c.args.places.now)
@@ -45,7 +45,7 @@ unfolding section
 returns c =
     let s = c.before.before in
     let l = c.before.loop in
-    let end : l.i ≡ maxStates = omega arith in
+    let end : l.i ≡ max_states = omega arith in
     rw end at l.invariant.1.holds
 
 pub fill-front-spec : {M : Type 1} → statement M

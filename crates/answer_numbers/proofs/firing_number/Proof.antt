@@ -2,7 +2,7 @@
 use borrow.Author.Rules.{rules}
 use mathlib.Core.Path.{sym, ◌∙◌, ap}
 use mathlib.Core.Bool.{Bool}
-use Rattle.answer_numbers.specs.Packed.{fields, firingNumber}
+use Rattle.answer_numbers.specs.Packed.{fields, firing_number}
 use Rattle.answer_numbers.proofs.firing_number.Statement.{statement}
 use Rattle.answer_numbers.proofs.firing_number.Tie as tie
 
@@ -25,7 +25,7 @@ returns : tie.Need-returns
 returns c =
     c.fields.ensures
     ∙ ap (λ (flag : Bool). fields flag 0 0) c.before.says.ensures
-    ∙ sym (ap firingNumber c.before.before.before.answer.given.1)
+    ∙ sym (ap firing_number c.before.before.before.answer.given.1)
 
 returns-2 : tie.Need-returns-2
 returns-2 c = search rules

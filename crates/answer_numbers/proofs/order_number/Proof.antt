@@ -1,7 +1,7 @@
 -- The number of states, or the rule.
 use borrow.Author.Rules.{rules}
 use mathlib.Core.Path.{sym, ◌∙◌, ap}
-use Rattle.answer_numbers.specs.Packed.{orderNumber}
+use Rattle.answer_numbers.specs.Packed.{order_number}
 use Rattle.answer_numbers.proofs.order_number.Statement.{statement}
 use Rattle.answer_numbers.proofs.order_number.Tie as tie
 
@@ -21,7 +21,7 @@ cast-result : tie.Need-overflow-cast-result
 cast-result c = search rules
 
 returns : tie.Need-returns
-returns c = c.fields.ensures ∙ sym (ap orderNumber c.before.before.answer.given.1)
+returns c = c.fields.ensures ∙ sym (ap order_number c.before.before.answer.given.1)
 
 returns-2 : tie.Need-returns-2
 returns-2 c = search rules

@@ -1,7 +1,7 @@
 -- Yes, no, or the rule.
 use borrow.Author.Rules.{rules}
 use mathlib.Core.Path.{sym, ◌∙◌, ap}
-use Rattle.answer_numbers.specs.Packed.{standingNumber}
+use Rattle.answer_numbers.specs.Packed.{standing_number}
 use Rattle.answer_numbers.proofs.standing_number.Statement.{statement}
 use Rattle.answer_numbers.proofs.standing_number.Tie as tie
 
@@ -24,10 +24,10 @@ cast-result : tie.Need-overflow-cast-result
 cast-result c = search rules
 
 returns : tie.Need-returns
-returns c = c.fields.ensures ∙ sym (ap standingNumber c.before.enum_told.given.1)
+returns c = c.fields.ensures ∙ sym (ap standing_number c.before.enum_told.given.1)
 
 returns-2 : tie.Need-returns-2
-returns-2 c = c.fields2.ensures ∙ sym (ap standingNumber c.before.enum-told2.given.1)
+returns-2 c = c.fields2.ensures ∙ sym (ap standing_number c.before.enum-told2.given.1)
 
 returns-3 : tie.Need-returns-3
 returns-3 c = search rules

@@ -8,7 +8,7 @@ use lib.Pow.{pow_pos, pow_mono, shl_exact}
 use Rattle.bits.proofs.Words.{full-members}
 use Rattle.bits.proofs.below.Statement.{statement}
 use Rattle.bits.proofs.below.Tie as tie
-use Rattle.bits.specs.Word.{setBits}
+use Rattle.bits.specs.Word.{set_bits}
 
 -- the shift does not wrap
 power : (c : tie.Start) → 1 * 2 ^ c.args.n % 2 ^ 64 ≡ 2 ^ c.args.n
@@ -21,7 +21,7 @@ sub-result : tie.Need-overflow-sub-result
 sub-result c = omega (arith, power c, pow_pos c.args.n)
 
 cast-result : tie.Need-overflow-cast-result
-cast-result c = omega (arith, power c, pow_mono {j = setBits} c.requires)
+cast-result c = omega (arith, power c, pow_mono {j = set_bits} c.requires)
 
 returns : tie.Need-returns
 returns c = rw (power c) (refl, full-members c.args.n)

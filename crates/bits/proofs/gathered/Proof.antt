@@ -5,7 +5,7 @@ use native.Mathlib.Omega.{arith}
 use mathlib.Core.Path.{◌≡◌, refl}
 use lib.ListN.{length, get_or}
 use Rattle.bits.specs.Word.{members}
-use Rattle.bits.proofs.Gathers.{gathers, gather_none, gather-more}
+use Rattle.bits.proofs.Gathers.{gathers, gather_none, gather_more}
 use Rattle.bits.proofs.gathered.Statement.{statement}
 use Rattle.bits.proofs.gathered.Tie as tie
 
@@ -35,7 +35,7 @@ loop-again c =
     let words = c.before.before.before.args.words.now in
     let l = c.before.before.loop in (
       search rules,
-      gather-more (λ j. members (get_or words j 0)) l.all (get_or words l.k 0) l.k l.invariant.1 refl,
+      gather_more (λ j. members (get_or words j 0)) l.all (get_or words l.k 0) l.k l.invariant.1 refl,
     )
 
 returns : tie.Need-returns invariant-loop decreases-loop

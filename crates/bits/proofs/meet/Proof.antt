@@ -1,12 +1,12 @@
 -- `meet` meets its contract: a & b is zero where no member is common.
 use borrow.Author.Rules.{rules}
-use Rattle.bits.specs.Word.{setBits}
+use Rattle.bits.specs.Word.{set_bits}
 use Rattle.bits.proofs.Tests.{meets-test}
 use Rattle.bits.proofs.meet.Statement.{statement}
 use Rattle.bits.proofs.meet.Tie as tie
 
 returns : tie.Need-returns
-returns c = meets-test setBits c.args.a c.args.b (search rules)
+returns c = meets-test set_bits c.args.a c.args.b (search rules)
 
 pub meet-spec : {M : Type 1} → statement M
 meet-spec = tie.close (tie.spec returns)

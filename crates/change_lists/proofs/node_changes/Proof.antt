@@ -9,7 +9,7 @@ use mir.Syntax.{w32}
 use mir.ValLaws.{to_z-of_z}
 use Rattle.bits.specs.Word.{members}
 use Rattle.listing.specs.Changes.{size_of, signed}
-use Rattle.listing.proofs.Placing.{Writing, left, writing_start, writing-room, writing-less, writing-next, writing-end}
+use Rattle.listing.proofs.Placing.{Writing, left, writing_start, writing_room, writing_less, writing_next, writing_end}
 use Rattle.change_lists.proofs.node_changes.Statement.{statement}
 use Rattle.change_lists.proofs.node_changes.Tie as tie
 
@@ -49,7 +49,7 @@ inside c =
     let a = (start c).args in
     let w = c.before.before.loop.invariant in
     let k = c.lowest in
-    let room = writing-room a.changes.now a.at a.node a.states a.before a.after w k.result k.ensures.1 k.ensures.2 in
+    let room = writing_room a.changes.now a.at a.node a.states a.before a.after w k.result k.ensures.1 k.ensures.2 in
     omega (arith, w.long)
 
 mul-t15 : tie.Need-overflow-mul-t15 invariant-loop decreases-loop
@@ -68,7 +68,7 @@ loop-less : tie.Need-loop-smaller invariant-loop decreases-loop
 loop-less c =
     let k = c.before.before.before in
     let a = (start k).args in
-    writing-less a.changes.now a.at a.node a.states a.before a.after k.before.before.loop.invariant
+    writing_less a.changes.now a.at a.node a.states a.before a.after k.before.before.loop.invariant
     k.lowest.result k.lowest.ensures.1 k.lowest.ensures.2 c.without-lowest.result (c.without-lowest.ensures k.lowest.result k.lowest.ensures.1 k.lowest.ensures.2)
 
 loop-again : tie.Need-loop-preserved invariant-loop decreases-loop
@@ -76,7 +76,7 @@ loop-again c =
     let k = c.before.before.before in
     let a = (start k).args in
     let z = c.before.change in
-    writing-next a.changes.now a.at a.node a.states a.before a.after k.before.before.loop.invariant
+    writing_next a.changes.now a.at a.node a.states a.before a.after k.before.before.loop.invariant
     k.lowest.result k.lowest.ensures.1 k.lowest.ensures.2 c.without-lowest.result (c.without-lowest.ensures k.lowest.result k.lowest.ensures.1 k.lowest.ensures.2) _ (omega arith)
     (to_z-of_z w32 z.result (record { sfits = z.type-inv })
     ∙ z.ensures
@@ -88,7 +88,7 @@ same_length c = search rules
 returns : tie.Need-returns invariant-loop decreases-loop
 returns c =
     let a = c.before.before.before.before.args in
-    writing-end a.changes.now a.at a.node a.states a.before a.after c.before.loop.invariant c.loop-test.false
+    writing_end a.changes.now a.at a.node a.states a.before a.after c.before.loop.invariant c.loop-test.false
 
 pub node-changes-spec : {M : Type 1} → statement M
 node-changes-spec =

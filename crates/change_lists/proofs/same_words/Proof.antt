@@ -11,7 +11,7 @@ use lib.Bits.{bit_or, bit_xor, and_le_l, and_le_r, and_self, or_add_and, xor_add
 use lib.Dec.{eqb}
 use lib.ListN.{get_or}
 use Rattle.simulation.specs.Sets.{all_below}
-use Rattle.simulation.proofs.Sets.{same, and-make, and_l, and_r}
+use Rattle.simulation.proofs.Sets.{same, and_make, and_l, and_r}
 use Rattle.change_lists.proofs.same_words.Statement.{statement}
 use Rattle.change_lists.proofs.same_words.Tie as tie
 
@@ -30,7 +30,7 @@ folded all x y =
     let parts = or_add_and all (bit_xor x y) in
     let less = and_le_l all (bit_xor x y) in
     let less' = and_le_r all (bit_xor x y) in
-    and-make
+    and_make
     (eq-eqb x y (omega (arith, xor_add_and x y, and_le_l x y, and_le_r x y)))
     (eq-eqb all 0 (omega arith)))
     (λ h.

@@ -7,7 +7,7 @@ use lib.Signed.{non_neg, lt_z, nat_abs-le}
 use lib.Dec.{T}
 use mir.Syntax.{w32, w64}
 use mir.ValLaws.{to_z-of_z}
-use Rattle.change_lists.proofs.Signs.{negated, negated_fits, widened, widened-fits, below-zero, abs_neg, not-below}
+use Rattle.change_lists.proofs.Signs.{negated, negated_fits, widened, widened_fits, below-zero, abs_neg, not-below}
 use Rattle.change_lists.proofs.size_of.Statement.{statement}
 use Rattle.change_lists.proofs.size_of.Tie as tie
 
@@ -15,7 +15,7 @@ cast-result : tie.Need-overflow-cast-result
 cast-result c =
     let z = c.before.args.change in
     let f = c.before.ranges.change in
-    widened-fits _ z (to_z-of_z w32 z f) f
+    widened_fits _ z (to_z-of_z w32 z f) f
 
 sub-result : tie.Need-overflow-sub-result
 sub-result c =

@@ -8,15 +8,15 @@ use mathlib.Core.Logic.{⊎_elim}
 use lib.Dec.{eqb}
 use lib.ListN.{length, get_or}
 use Rattle.simulation.proofs.Sets.{all_take}
-use Rattle.listing.specs.Placed.{tableChanges, Placed}
-use Rattle.listing.proofs.Placing.{placed-start, node-short, table_none, table_same, table-wrote, table-passed}
+use Rattle.listing.specs.Placed.{table_changes, Placed}
+use Rattle.listing.proofs.Placing.{placed-start, node-short, table_none, table_same, table_wrote, table-passed}
 use Rattle.change_lists.proofs.write_changes.Statement.{statement}
 use Rattle.change_lists.proofs.write_changes.Tie as tie
-use Rattle.session.specs.Limits.{maxStates}
+use Rattle.session.specs.Limits.{max_states}
 
 abbrev invariant-loop : tie.invariant-loop
 invariant-loop changes₀ states nodes before after next₀ v₀ changes next v =
-    (v ≤ nodes) × (next ≤ v * maxStates) × (length changes ≡ length changes₀) × Placed changes₀ 0 (tableChanges states v before after) changes next
+    (v ≤ nodes) × (next ≤ v * max_states) × (length changes ≡ length changes₀) × Placed changes₀ 0 (table_changes states v before after) changes next
 
 abbrev decreases-loop : tie.decreases-loop
 decreases-loop changes₀ states nodes before after next₀ v₀ changes next v = nodes - v
@@ -76,7 +76,7 @@ loop-again c =
       search rules,
       omega (arith, w.2.ensures.past, node-short l.v a.states (get_or bs l.v 0) (get_or cs l.v 0)),
       w.2.kept.0 ∙ l.invariant.2,
-      table-wrote a.states bs cs l.v l.invariant.3 w.2.ensures,
+      table_wrote a.states bs cs l.v l.invariant.3 w.2.ensures,
     ))
     (λ w. rw (w.1, w.2) (search rules, search rules, l.invariant.2, table-passed a.states bs cs l.v l.invariant.3 w.0.left))
     c.if2.branch

@@ -3,7 +3,7 @@ use native.Mathlib.Omega.{arith}
 use mathlib.Core.Path.{◌≡◌, refl, ap, ◌∙◌}
 use mathlib.Core.Bool.{false}
 use lib.ListN.{length, replicate}
-use Rattle.session.specs.Layout.{marksOf}
+use Rattle.session.specs.Layout.{marks_of}
 use Rattle.session.proofs.Decoded.{layout-facts}
 use Rattle.pair_tables.specs.Tables.{marked}
 use Rattle.pair_tables.proofs.Tabling.{marked-none}
@@ -13,10 +13,10 @@ use Rattle.editing.specs.Steps.{RefinedAt}
 use borrow.Author.Rules.{rules}
 use Rattle.deletion.proofs.cease.Statement.{statement}
 use Rattle.deletion.proofs.cease.Tie as tie
-use Rattle.session.specs.Limits.{maxNodes}
+use Rattle.session.specs.Limits.{max_nodes}
 
 -- the table holds the marks
-all : (s : tie.Start) → marked s.args.table.now ≡ marksOf s.args.session.now
+all : (s : tie.Start) → marked s.args.table.now ≡ marks_of s.args.session.now
 all s = ap marked s.requires.2 ∙ held-marks s.args.session.now s.requires.0
 
 slice-aggregate-refine-at : tie.Need-slice-aggregate-refine-at
@@ -35,8 +35,8 @@ same_length c = search rules
 returns : tie.Need-returns
 returns c =
     let s = c.before.before.before.before.before.before.before in
-    let r : RefinedAt s.args.session.now s.args.start (λ u v. false) (marksOf s.args.session.now) _ =
-    rw (marked-none (replicate maxNodes 0) (zeros maxNodes), all s) at c.before.before.refine-at.ensures in
+    let r : RefinedAt s.args.session.now s.args.start (λ u v. false) (marks_of s.args.session.now) _ =
+    rw (marked-none (replicate max_nodes 0) (zeros max_nodes), all s) at c.before.before.refine-at.ensures in
     record { long = r.long; within = r.within; exact = r.exact }
 
 pub cease-spec : {M : Type 1} → statement M

@@ -3,8 +3,8 @@ use borrow.Author.Rules.{rules}
 use native.Mathlib.Omega.{arith}
 use mathlib.Core.Path.{◌≡◌, ◌∙◌, ap}
 use lib.ListN.{length, take, drop}
-use Rattle.session.specs.Limits.{marksAt, maxNodes}
-use Rattle.session.proofs.Decoded.{Bounded, layout-limits}
+use Rattle.session.specs.Limits.{marks_at, max_nodes}
+use Rattle.session.proofs.Decoded.{Bounded, layout_limits}
 use Rattle.session_parts.proofs.Parts.{marks-long}
 use Rattle.deletion.proofs.Counting.{gone-states, gone-counted}
 use Rattle.deletion.proofs.ceased_pairs.Statement.{statement}
@@ -14,14 +14,14 @@ abbrev start : tie.After-shared-slice-known4 → tie.Start
 start c = c.before.before.before.before
 
 abbrev bounded : (c : tie.After-shared-slice-known4) → Bounded (start c).args.session.now
-bounded c = layout-limits (start c).args.session.now (start c).requires.0
+bounded c = layout_limits (start c).args.session.now (start c).requires.0
 
 -- the marks are saved whole
-saved : (c : tie.After-copy-words) → c.copy-words.new.0 ≡ take maxNodes (drop marksAt (start c.before.before.before).args.session.now)
+saved : (c : tie.After-copy-words) → c.copy-words.new.0 ≡ take max_nodes (drop marks_at (start c.before.before.before).args.session.now)
 saved c = c.copy-words.ensures ∙ c.before.marks-of.ensures
 
 shared-slice-read-states : tie.Need-shared-slice-read-states
-shared-slice-read-states c = omega (arith, layout-limits c.before.before.before.args.session.now c.before.before.before.requires.0)
+shared-slice-read-states c = omega (arith, layout_limits c.before.before.before.args.session.now c.before.before.before.requires.0)
 
 shared-slice-read-nodes : tie.Need-shared-slice-read-nodes
 shared-slice-read-nodes c = omega (arith, bounded c)
@@ -53,9 +53,9 @@ pairs-in-requires c κs =
     let s = start c.before.before.before.before.before.before.before.before in
     let b = bounded c.before.before.before.before.before.before.before.before in
     let taken = c.before.before.take-away.ensures in (
-      b.few-states,
-      b.few-nodes,
-      omega (arith, b.few-nodes, taken.0),
+      b.few_states,
+      b.few_nodes,
+      omega (arith, b.few_nodes, taken.0),
       gone-states s.args.session.now s.pre.0 _ s.args.table.now c.before.before.take-away.new.0 (saved c.before.before.before.before.before) taken.1,
     )
 

@@ -3,16 +3,16 @@ use Prim.Native.Nat.{◌<◌}
 use mathlib.Core.Path.{◌≡◌, sym, ◌∙◌, ap}
 use mathlib.Core.Bool.{true}
 use lib.ListN.{length, take, drop}
-use Rattle.session.specs.Limits.{marksAt, maxNodes}
+use Rattle.session.specs.Limits.{marks_at, max_nodes}
 use Rattle.session.specs.Trigger.{nodes}
-use Rattle.session.specs.Layout.{triggerOf, graph_of, marksOf, inLayout}
+use Rattle.session.specs.Layout.{trigger_of, graph_of, marks_of, in_layout}
 use Rattle.promises.specs.Rules.{deletion, edited}
 use Rattle.promises.specs.Promises.{Left}
-use Rattle.promises.proofs.Edits.{deletion-passed}
+use Rattle.promises.proofs.Edits.{deletion_passed}
 use Rattle.session_parts.proofs.Parts.{marks-long}
 use Rattle.editing.specs.Steps.{Ceased}
-use Rattle.editing.proofs.Moved.{saved-calm, saved-before}
-use Rattle.deletion.proofs.Deleted.{deleted-layout, deleted-start, deleted-same, ceased-inside, deleted-stored}
+use Rattle.editing.proofs.Moved.{saved_calm, saved-before}
+use Rattle.deletion.proofs.Deleted.{deleted_layout, deleted_start, deleted_same, ceased-inside, deleted_stored}
 use borrow.Author.Rules.{rules}
 use Rattle.deletion.proofs.delete_edit.Statement.{statement}
 use Rattle.deletion.proofs.delete_edit.Tie as tie
@@ -22,20 +22,20 @@ start c = c.before.before.before.before
 
 -- the session without the edge
 moved : (c : tie.After-remove-edge) → (let s = start c in let xs = s.args.session.now in
-    Left (triggerOf xs) (edited deletion (graph_of xs) s.args.start s.args.end) (marksOf xs) xs c.remove-edge.new.0)
+    Left (trigger_of xs) (edited deletion (graph_of xs) s.args.start s.args.end) (marks_of xs) xs c.remove-edge.new.0)
 moved c = c.remove-edge.ensures
 
-layout : (c : tie.After-remove-edge) → inLayout c.remove-edge.new.0 ≡ true
-layout c = let s = start c in deleted-layout s.args.session.now s.args.start s.args.end s.pre.0 s.pre.1 _ (moved c)
+layout : (c : tie.After-remove-edge) → in_layout c.remove-edge.new.0 ≡ true
+layout c = let s = start c in deleted_layout s.args.session.now s.args.start s.args.end s.pre.0 s.pre.1 _ (moved c)
 
 inside : (c : tie.After-remove-edge) → (start c).args.start < nodes (graph_of c.remove-edge.new.0)
-inside c = let s = start c in deleted-start s.args.session.now s.args.start s.args.end s.pre.0 s.pre.1 _ (moved c)
+inside c = let s = start c in deleted_start s.args.session.now s.args.start s.args.end s.pre.0 s.pre.1 _ (moved c)
 
 -- the marks that were
 abbrev edge-out : tie.After-copy-words → tie.After-remove-edge
 edge-out c = c.before.before.before.before.before.before.before.before.before
 
-saved : (c : tie.After-copy-words) → c.copy-words.new.0 ≡ take maxNodes (drop marksAt (edge-out c).remove-edge.new.0)
+saved : (c : tie.After-copy-words) → c.copy-words.new.0 ≡ take max_nodes (drop marks_at (edge-out c).remove-edge.new.0)
 saved c = c.copy-words.ensures ∙ c.before.marks-of.ensures
 
 -- what refinement leaves
@@ -45,7 +45,7 @@ left c = c.cease.ensures
 remove-edge-requires : tie.Need-remove-edge-requires
 remove-edge-requires c κs =
     let s = c.before.before.before in
-    (s.requires.0, (deletion-passed (graph_of s.args.session.now) s.args.start s.args.end s.requires.1).2)
+    (s.requires.0, (deletion_passed (graph_of s.args.session.now) s.args.start s.args.end s.requires.1).2)
 
 steady-requires : tie.Need-steady-requires
 steady-requires c κs = (layout c.before.before.before, inside c.before.before.before)
@@ -57,8 +57,8 @@ returns : tie.Need-returns
 returns c =
     let s = c.before.before.before.before.before.before.before.before.before in
     let a = s.args in (
-      deleted-same a.session.now a.start a.end s.requires.0 s.requires.1 _ (moved c.before.before.before.before.before) (sym c.before.steady.ensures ∙ c.if1.true),
-      saved-calm deletion a.session.now a.start a.end s.requires.0 s.requires.1 _ (moved c.before.before.before.before.before) _,
+      deleted_same a.session.now a.start a.end s.requires.0 s.requires.1 _ (moved c.before.before.before.before.before) (sym c.before.steady.ensures ∙ c.if1.true),
+      saved_calm deletion a.session.now a.start a.end s.requires.0 s.requires.1 _ (moved c.before.before.before.before.before) _,
     )
 
 marks-of-requires : tie.Need-marks-of-requires
@@ -113,7 +113,7 @@ returns-2 c =
     let s = c.before.before.before.before.before.before.before.before.before.before.before.before.before.before.before.before.before.before.before.before.before.before.before.before.before.before.before.before.before.before.before in
     let a = s.args in
     let i = c.before.before.before.before.before.before.before.before.before.before.before.before.before.before.before.before.before.before.before.before.before.before.before.before.before.before.before in (
-      deleted-stored a.session.now a.start a.end s.requires.0 s.requires.1 _ (moved i) _ (left c.before.before.before.before.before.before.before.before.before)
+      deleted_stored a.session.now a.start a.end s.requires.0 s.requires.1 _ (moved i) _ (left c.before.before.before.before.before.before.before.before.before)
           _ c.before.before.store-marks.new.0 c.before.before.before.before.before.ceased-pairs.ensures c.before.before.store-marks.ensures,
       saved-before deletion a.session.now a.start a.end s.requires.0 s.requires.1 _ (moved i) _ _ (saved c.before.before.before.before.before.before.before.before.before.before.before.before.before.before.before.before.before.before),
     )

@@ -5,23 +5,23 @@ use mathlib.Core.List.{List}
 use mathlib.Core.Path.{◌≡◌, refl, sym, ap, ◌∙◌}
 use lib.ListN.{length, get_or}
 use Rattle.simulation.specs.Sets.{Set}
-use Rattle.session.specs.Layout.{triggerOf, graph_of}
+use Rattle.session.specs.Layout.{trigger_of, graph_of}
 use Rattle.session.proofs.Decoded.{layout-facts}
-use Rattle.refinement.specs.Refining.{unmetOf}
-use Rattle.edge_indexes.specs.Indexes.{edgesFrom}
-use Rattle.refinement.proofs.Systems.{held-sound}
+use Rattle.refinement.specs.Refining.{unmet_of}
+use Rattle.edge_indexes.specs.Indexes.{edges_from}
+use Rattle.refinement.proofs.Systems.{held_sound}
 use Rattle.session_parts.proofs.Parts.{marks-long}
-use Rattle.deletion.proofs.SteadyNodes.{steady-is, unmet-none}
+use Rattle.deletion.proofs.SteadyNodes.{steady_is, unmet_none}
 use borrow.Author.Rules.{rules}
 use Rattle.deletion.proofs.steady.Statement.{statement}
 use Rattle.deletion.proofs.steady.Tie as tie
-use Rattle.session.specs.Limits.{maxNodes}
+use Rattle.session.specs.Limits.{max_nodes}
 
 -- a word for each node, and the node is one of them
-long : (c : tie.After-marks-of) → length c.marks-of.result.now ≡ maxNodes
+long : (c : tie.After-marks-of) → length c.marks-of.result.now ≡ max_nodes
 long c = let s = c.before.before in ap length c.marks-of.ensures ∙ marks-long s.args.session.now s.requires.0
 
-inside : (s : tie.Start) → s.args.node < maxNodes
+inside : (s : tie.Start) → s.args.node < max_nodes
 inside s = omega (arith, s.requires.1, (layout-facts s.args.session.now s.requires.0).graph.few)
 
 marks-of-requires : tie.Need-marks-of-requires
@@ -38,9 +38,9 @@ returns c =
     let s = c.before.before.before.before in
     let xs = s.args.session.now in
     let marks = c.before.before.marks-of in
-    let lacking : ℕ → Set = λ w. unmetOf w (triggerOf xs).links (edgesFrom (graph_of xs).edges s.args.node) marks.result.now marks.result.now in
-    steady-is xs s.requires.0 marks.result.now marks.ensures s.args.node _ _ 0 refl refl
-    (unmet-none (triggerOf xs).links (edgesFrom (graph_of xs).edges s.args.node) marks.result.now marks.result.now ∙ ap lacking (sym c.if1.true))
+    let lacking : ℕ → Set = λ w. unmet_of w (trigger_of xs).links (edges_from (graph_of xs).edges s.args.node) marks.result.now marks.result.now in
+    steady_is xs s.requires.0 marks.result.now marks.ensures s.args.node _ _ 0 refl refl
+    (unmet_none (trigger_of xs).links (edges_from (graph_of xs).edges s.args.node) marks.result.now marks.result.now ∙ ap lacking (sym c.if1.true))
 
 edges-of-requires : tie.Need-edges-of-requires
 edges-of-requires c κs = search rules
@@ -48,8 +48,8 @@ edges-of-requires c κs = search rules
 edges-from-requires : tie.Need-edges-from-requires
 edges-from-requires c κs =
     let s = c.before.before.before.before.before in
-    let sound = held-sound s.args.session.now s.requires.0 (triggerOf s.args.session.now).links _ refl c.edges-of.ensures in
-    (sound.ascend, omega (arith, sound.few-edges), inside s)
+    let sound = held_sound s.args.session.now s.requires.0 (trigger_of s.args.session.now).links _ refl c.edges-of.ensures in
+    (sound.ascend, omega (arith, sound.few_edges), inside s)
 
 links-of-requires : tie.Need-links-of-requires
 links-of-requires c κs = search rules
@@ -65,8 +65,8 @@ returns-2 c =
     let s = c.before.before.before.before.before.before.before.before in
     let xs = s.args.session.now in
     let marks = c.before.before.before.before.before.before.marks-of in
-    let sought : List ℕ → Set = λ es. unmetOf (get_or marks.result.now s.args.node 0) c.before.links-of.result.now es marks.result.now marks.result.now in
-    steady-is xs s.requires.0 marks.result.now marks.ensures s.args.node _ _ c.unmet.result c.before.links-of.ensures c.before.before.before.edges-of.ensures
+    let sought : List ℕ → Set = λ es. unmet_of (get_or marks.result.now s.args.node 0) c.before.links-of.result.now es marks.result.now marks.result.now in
+    steady_is xs s.requires.0 marks.result.now marks.ensures s.args.node _ _ c.unmet.result c.before.links-of.ensures c.before.before.before.edges-of.ensures
     (c.unmet.ensures ∙ ap sought c.before.before.edges-from.ensures)
 
 pub steady-spec : {M : Type 1} → statement M

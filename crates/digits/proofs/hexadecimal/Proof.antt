@@ -7,7 +7,7 @@ use mathlib.Core.Logic.{⊎_elim}
 use lib.Dec.{ltb}
 use lib.ListN.{length, get_or}
 use Rattle.simulation.specs.Sets.{Set}
-use Rattle.simulation.proofs.Folds.{Folded, fold_start, fold-pass, fold-fault, fold_end}
+use Rattle.simulation.proofs.Folds.{Folded, fold_start, fold_pass, fold_fault, fold_end}
 use Rattle.frames.specs.Digits as d
 use Rattle.digits.proofs.hexadecimal.Statement.{statement}
 use Rattle.digits.proofs.hexadecimal.Tie as tie
@@ -41,8 +41,8 @@ loop-again c =
     let v = d.digit (get_or bs l.k 0) in
     let is = c.before.digit.ensures in
     ⊎_elim
-    (λ w. rw w.1 (fold-fault P (length bs) l.k (omega arith) (le-ltb v 16 (rw is at w.0.taken))))
-    (λ w. rw w.1 (fold-pass P (length bs) l.faults l.k l.invariant (omega arith) (lt-ltb v 16 (rw is at w.0.left))))
+    (λ w. rw w.1 (fold_fault P (length bs) l.k (omega arith) (le-ltb v 16 (rw is at w.0.taken))))
+    (λ w. rw w.1 (fold_pass P (length bs) l.faults l.k l.invariant (omega arith) (lt-ltb v 16 (rw is at w.0.left))))
     c.if1.branch
 
 returns : tie.Need-returns invariant-loop decreases-loop

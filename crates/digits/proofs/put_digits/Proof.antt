@@ -5,8 +5,8 @@ use mathlib.Core.Path.{◌≡◌, ◌∙◌}
 use lib.Bits.{and_le_r}
 use lib.ListN.{length, length-set}
 use borrow.Author.Rules.{rules}
-use Rattle.frames.proofs.Written.{Writing, place-fits, writing_start, writing-next, writing_more, writing-end}
-use Rattle.digits.proofs.Fours.{writing-four, writing-rest}
+use Rattle.frames.proofs.Written.{Writing, place-fits, writing_start, writing_next, writing_more, writing_end}
+use Rattle.digits.proofs.Fours.{writing_four, writing_rest}
 use Rattle.digits.proofs.put_digits.Statement.{statement}
 use Rattle.digits.proofs.put_digits.Tie as tie
 
@@ -29,7 +29,7 @@ fours : (h : tie.At-loop invariant-loop decreases-loop invariant-loop2 decreases
 fours h =
     let s = h.before.before in
     let l = h.loop in
-    writing-next s.args.out.now s.args.at s.args.count s.args.value s.requires.1 l.out l.next l.left l.invariant
+    writing_next s.args.out.now s.args.at s.args.count s.args.value s.requires.1 l.out l.next l.left l.invariant
 
 room : (h : tie.At-loop invariant-loop decreases-loop invariant-loop2 decreases-loop2) → h.loop.next + h.loop.left ≤ length h.loop.out
 room h = omega (arith, h.before.before.requires.1, fours h)
@@ -39,7 +39,7 @@ ones : (h : tie.At-loop2 invariant-loop decreases-loop invariant-loop2 decreases
 ones h =
     let l = h.before.before.loop in
     let k = h.loop2 in
-    writing-next l.out l.next l.left h.before.before.before.before.args.value (room h.before.before) k.out k.next k.left k.invariant
+    writing_next l.out l.next l.left h.before.before.before.before.args.value (room h.before.before) k.out k.next k.left k.invariant
 
 loop-holds : tie.Need-loop-init invariant-loop decreases-loop invariant-loop2 decreases-loop2
 loop-holds c = let s = c.before in writing_start s.args.out.now s.args.at s.args.count s.args.value s.requires.1
@@ -105,7 +105,7 @@ loop-again : tie.Need-loop-preserved invariant-loop decreases-loop invariant-loo
 loop-again c =
     let s = c.before.before.before.before in
     let l = c.before.before.loop in
-    writing-four s.args.out.now s.args.at s.args.count s.args.value s.requires.1 l.out l.next l.left l.invariant c.before.loop-test.true c.letters.result
+    writing_four s.args.out.now s.args.at s.args.count s.args.value s.requires.1 l.out l.next l.left l.invariant c.before.loop-test.true c.letters.result
     c.letters.ensures
 
 loop2-holds : tie.Need-loop2-init invariant-loop decreases-loop invariant-loop2 decreases-loop2
@@ -147,8 +147,8 @@ returns c =
     let s = c.before.before.before.before.before in
     let l = c.before.before.before.loop in
     let k = c.before.loop2 in
-    let rest = writing-end l.out l.next l.left s.args.value (room c.before.before.before) k.out k.next k.left k.invariant (omega arith) in
-    writing-rest s.args.out.now s.args.at s.args.count s.args.value s.requires.1 l.out l.next l.left l.invariant k.out k.next rest
+    let rest = writing_end l.out l.next l.left s.args.value (room c.before.before.before) k.out k.next k.left k.invariant (omega arith) in
+    writing_rest s.args.out.now s.args.at s.args.count s.args.value s.requires.1 l.out l.next l.left l.invariant k.out k.next rest
 
 pub put-digits-spec : {M : Type 1} → statement M
 put-digits-spec =

@@ -1,14 +1,14 @@
 -- Where there is an index, the range of the node's edges is read from it.
 use Prim.Native.Nat.{◌+◌}
-use Rattle.edge_indexes.proofs.Ranges.{range-from}
+use Rattle.edge_indexes.proofs.Ranges.{range_from}
 use Rattle.edge_indexes.specs.Indexes.{Started}
-use Rattle.simulation.proofs.Edges.{from_le, from-mono}
+use Rattle.simulation.proofs.Edges.{from_le, from_mono}
 use borrow.Author.Rules.{rules}
 use lib.ListN.{get_or}
 use native.Mathlib.Omega.{arith}
 use Rattle.edge_indexes.proofs.edges_at.Statement.{statement}
 use Rattle.edge_indexes.proofs.edges_at.Tie as tie
-use Rattle.session.specs.Limits.{maxNodes}
+use Rattle.session.specs.Limits.{max_nodes}
 
 -- there is an index
 started : (e : tie.Else1) → Started e.before.before.before.args.edges.now e.before.before.before.args.firsts.now
@@ -42,22 +42,22 @@ cast-high : tie.Need-overflow-cast-high
 cast-high c = omega (arith, c.shared-slice-known4.given (c.before.before.before.before.before.args.v + 1))
 
 mul-result : tie.Need-overflow-mul-result
-mul-result c = let e = c.before.before in let a = e.before.before.before.args in omega (arith, (started e).first a.v (omega arith), from_le maxNodes a.edges.now a.v, e.before.before.before.requires.0.1)
+mul-result c = let e = c.before.before in let a = e.before.before.before.args in omega (arith, (started e).first a.v (omega arith), from_le max_nodes a.edges.now a.v, e.before.before.before.requires.0.1)
 
 sub-result : tie.Need-overflow-sub-result
-sub-result c = let e = c.before.before in let a = e.before.before.before.args in omega (arith, (started e).first a.v (omega arith), (started e).first (a.v + 1) (omega arith), from-mono maxNodes a.edges.now a.v)
+sub-result c = let e = c.before.before in let a = e.before.before.before.args in omega (arith, (started e).first a.v (omega arith), (started e).first (a.v + 1) (omega arith), from_mono max_nodes a.edges.now a.v)
 
 part-result-start : tie.Need-slice-bounds-result-start
-part-result-start c = let e = c.before.before in let a = e.before.before.before.args in omega (arith, (started e).first a.v (omega arith), (started e).first (a.v + 1) (omega arith), from-mono maxNodes a.edges.now a.v)
+part-result-start c = let e = c.before.before in let a = e.before.before.before.args in omega (arith, (started e).first a.v (omega arith), (started e).first (a.v + 1) (omega arith), from_mono max_nodes a.edges.now a.v)
 
 part-result-end : tie.Need-slice-bounds-result-end
-part-result-end c = let e = c.before.before in let a = e.before.before.before.args in omega (arith, (started e).first (a.v + 1) (omega arith), from_le maxNodes a.edges.now (a.v + 1))
+part-result-end c = let e = c.before.before in let a = e.before.before.before.args in omega (arith, (started e).first (a.v + 1) (omega arith), from_le max_nodes a.edges.now (a.v + 1))
 
 returns-2 : tie.Need-returns-2
 returns-2 c =
     let e = c.before.before.before in
     let a = e.before.before.before.args in
-    range-from a.edges.now a.v (get_or a.firsts.now a.v 0) (get_or a.firsts.now (a.v + 1) 0) ((started e).first a.v (omega arith)) ((started e).first (a.v + 1) (omega arith))
+    range_from a.edges.now a.v (get_or a.firsts.now a.v 0) (get_or a.firsts.now (a.v + 1) 0) ((started e).first a.v (omega arith)) ((started e).first (a.v + 1) (omega arith))
 
 pub edges-at-spec : {M : Type 1} → statement M
 edges-at-spec =

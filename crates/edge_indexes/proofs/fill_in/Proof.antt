@@ -1,25 +1,25 @@
 -- `fill_in` meets its contract: the places before v are filled in, the others as they were.
 use Prim.Native.Nat.{◌-◌, ◌<◌}
-use Rattle.edge_indexes.proofs.Firsts.{Filling, filling-none, filled-before, filled-noted, filling-next}
+use Rattle.edge_indexes.proofs.Firsts.{Filling, filling_none, filled-before, filled-noted, filling_next}
 use borrow.Author.Rules.{rules}
 use mathlib.Core.Logic.{⊎_elim}
 use mathlib.Core.Path.{◌∙◌}
 use native.Mathlib.Omega.{arith}
 use Rattle.edge_indexes.proofs.fill_in.Statement.{statement}
 use Rattle.edge_indexes.proofs.fill_in.Tie as tie
-use Rattle.edge_indexes.specs.Indexes.{startsSize}
+use Rattle.edge_indexes.specs.Indexes.{starts_size}
 
 abbrev invariant-loop : tie.invariant-loop
 invariant-loop firsts₀ place₀ v₀ firsts place v = Filling firsts₀ firsts place v
 
 abbrev decreases-loop : tie.decreases-loop
-decreases-loop firsts₀ place₀ v₀ firsts place v = startsSize - v
+decreases-loop firsts₀ place₀ v₀ firsts place v = starts_size - v
 
 slice-read-place : tie.Need-slice-read-place invariant-loop decreases-loop
 slice-read-place c = search rules
 
 loop-holds : tie.Need-loop-init invariant-loop decreases-loop
-loop-holds c = filling-none c.before.requires
+loop-holds c = filling_none c.before.requires
 
 mul-noted : tie.Need-overflow-mul-noted invariant-loop decreases-loop
 mul-noted c = search rules
@@ -43,8 +43,8 @@ loop-again : tie.Need-loop-preserved invariant-loop decreases-loop
 loop-again c =
     let t = c.before.before in
     let x = t.before.loop.invariant in
-    let inside : t.before.loop.v < startsSize = omega (arith, t.loop-test.true) in
-    filling-next x inside c.if1.place
+    let inside : t.before.loop.v < starts_size = omega (arith, t.loop-test.true) in
+    filling_next x inside c.if1.place
     (⊎_elim
     (λ w. w.1 ∙ filled-noted x inside w.0.taken)
     (λ w. w.1 ∙ filled-before x inside w.0.left)

@@ -3,7 +3,7 @@ use Prim.Native.Nat.{◌-◌}
 use borrow.Author.Rules.{rules}
 use native.Mathlib.Omega.{arith}
 use lib.ListN.{length}
-use Rattle.edge_indexes.proofs.Incoming.{Indexing, indexing-none, indexing-more, indexing-done}
+use Rattle.edge_indexes.proofs.Incoming.{Indexing, indexing_none, indexing_more, indexing_done}
 use Rattle.edge_indexes.proofs.index.Statement.{statement}
 use Rattle.edge_indexes.proofs.index.Tie as tie
 
@@ -14,7 +14,7 @@ abbrev decreases-loop : tie.decreases-loop
 decreases-loop edges heads₀ nexts₀ k₀ heads nexts k = length edges - k
 
 loop-holds : tie.Need-loop-init invariant-loop decreases-loop
-loop-holds c = indexing-none c.requires.0.1 c.requires.0.2 c.requires.1
+loop-holds c = indexing_none c.requires.0.1 c.requires.0.2 c.requires.1
 
 mul-end : tie.Need-overflow-mul-end invariant-loop decreases-loop
 mul-end c = search rules
@@ -56,7 +56,7 @@ loop-less : tie.Need-loop-smaller invariant-loop decreases-loop
 loop-less c = search rules
 
 loop-again : tie.Need-loop-preserved invariant-loop decreases-loop
-loop-again c = indexing-more c.before.before.before.loop.invariant (omega arith) (omega arith)
+loop-again c = indexing_more c.before.before.before.loop.invariant (omega arith) (omega arith)
 
 same_length : tie.Need-same-length invariant-loop decreases-loop
 same_length c = search rules
@@ -65,7 +65,7 @@ same-length-2 : tie.Need-same-length-2 invariant-loop decreases-loop
 same-length-2 c = search rules
 
 returns : tie.Need-returns invariant-loop decreases-loop
-returns c = indexing-done c.before.loop.invariant (omega arith)
+returns c = indexing_done c.before.loop.invariant (omega arith)
 
 pub index-spec : {M : Type 1} → statement M
 index-spec =

@@ -4,10 +4,10 @@ use borrow.Author.Rules.{rules}
 use native.Mathlib.Omega.{arith}
 use lib.ListN.{length, get_or}
 use Rattle.session.proofs.Tables.{below-take}
-use Rattle.edge_indexes.proofs.Firsts.{Noting, noting-none, noting-more, noting-done}
+use Rattle.edge_indexes.proofs.Firsts.{Noting, noting_none, noting_more, noting_done}
 use Rattle.edge_indexes.proofs.note_ends.Statement.{statement}
 use Rattle.edge_indexes.proofs.note_ends.Tie as tie
-use Rattle.session.specs.Limits.{edgeNumbers}
+use Rattle.session.specs.Limits.{edge_numbers}
 
 abbrev invariant-loop : tie.invariant-loop
 invariant-loop edges firsts₀ k₀ firsts k = Noting edges firsts k
@@ -16,11 +16,11 @@ abbrev decreases-loop : tie.decreases-loop
 decreases-loop edges firsts₀ k₀ firsts k = length edges - k
 
 -- the edge that is read is one between nodes
-inside : (t : tie.In-loop invariant-loop decreases-loop) → get_or t.before.before.args.edges.now t.before.loop.k 0 < edgeNumbers
-inside t = below-take edgeNumbers t.before.before.args.edges.now t.before.before.requires.0.1 t.before.loop.k t.loop-test.true
+inside : (t : tie.In-loop invariant-loop decreases-loop) → get_or t.before.before.args.edges.now t.before.loop.k 0 < edge_numbers
+inside t = below-take edge_numbers t.before.before.args.edges.now t.before.before.requires.0.1 t.before.loop.k t.loop-test.true
 
 loop-holds : tie.Need-loop-init invariant-loop decreases-loop
-loop-holds c = noting-none c.requires.0.2 c.requires.1
+loop-holds c = noting_none c.requires.0.2 c.requires.1
 
 mul-start : tie.Need-overflow-mul-start invariant-loop decreases-loop
 mul-start c = search rules
@@ -53,13 +53,13 @@ loop-less : tie.Need-loop-smaller invariant-loop decreases-loop
 loop-less c = search rules
 
 loop-again : tie.Need-loop-preserved invariant-loop decreases-loop
-loop-again c = let t = c.before in noting-more t.before.loop.invariant t.loop-test.true t.before.before.requires.0.1
+loop-again c = let t = c.before in noting_more t.before.loop.invariant t.loop-test.true t.before.before.requires.0.1
 
 same_length : tie.Need-same-length invariant-loop decreases-loop
 same_length c = search rules
 
 returns : tie.Need-returns invariant-loop decreases-loop
-returns c = noting-done c.before.loop.invariant (omega arith)
+returns c = noting_done c.before.loop.invariant (omega arith)
 
 pub note-ends-spec : {M : Type 1} → statement M
 note-ends-spec =

@@ -6,7 +6,7 @@ use mathlib.Core.Path.{refl, sym, ◌∙◌, ap}
 use mathlib.Core.List.{List, [], ◌∷◌, ◌++◌}
 use lib.ListN.{length, length-drop}
 use Rattle.simulation.proofs.Ordered.{rising-take}
-use Rattle.edges.proofs.Places.{place-of-member, remove-place}
+use Rattle.edges.proofs.Places.{place_of_member, remove-place}
 use Rattle.edges.proofs.Moves.{to_end, dropped}
 use Rattle.edges.proofs.drop_edge.Statement.{statement}
 use Rattle.edges.proofs.drop_edge.Tie as tie
@@ -16,7 +16,7 @@ stands : (c : tie.After-place-of) → c.place_of.result < length c.before.before
 stands c =
     let s = c.before.before.before in
     let xs = s.args.edges.now in
-    rw c.place_of.ensures (place-of-member xs s.args.code (rising-take xs s.requires.0) s.requires.1).0
+    rw c.place_of.ensures (place_of_member xs s.args.code (rising-take xs s.requires.0) s.requires.1).0
 
 place-of-requires : tie.Need-place-of-requires
 place-of-requires c κs = search rules

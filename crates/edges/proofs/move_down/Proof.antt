@@ -4,7 +4,7 @@ use native.Mathlib.Omega.{arith}
 use Prim.Native.Nat.{◌-◌}
 use mathlib.Core.Path.{◌≡◌, refl}
 use lib.ListN.{length}
-use Rattle.edges.proofs.Moves.{Lowered, lower-start, lower-step, lower-end}
+use Rattle.edges.proofs.Moves.{Lowered, lower_start, lower_step, lower_end}
 use Rattle.edges.proofs.move_down.Statement.{statement}
 use Rattle.edges.proofs.move_down.Tie as tie
 
@@ -18,7 +18,7 @@ sub-last : tie.Need-overflow-sub-last invariant-loop decreases-loop
 sub-last c = search rules
 
 loop-holds : tie.Need-loop-init invariant-loop decreases-loop
-loop-holds c = (refl, lower-start c.args.part.now c.requires)
+loop-holds c = (refl, lower_start c.args.part.now c.requires)
 
 add-part : tie.Need-overflow-add-part invariant-loop decreases-loop
 add-part c = search rules
@@ -44,7 +44,7 @@ loop-less c = search rules
 loop-again : tie.Need-loop-preserved invariant-loop decreases-loop
 loop-again c =
     let l = c.before.before.loop in
-    (refl, lower-step c.before.before.before.args.part.now l.part l.k l.invariant.1 (omega arith))
+    (refl, lower_step c.before.before.before.args.part.now l.part l.k l.invariant.1 (omega arith))
 
 mul-part-3 : tie.Need-overflow-mul-part-3 invariant-loop decreases-loop
 mul-part-3 c = search rules
@@ -60,7 +60,7 @@ returns c =
     let xs = c.before.before.args.part.now in
     let l = c.before.loop in
     let done : l.k ≡ length xs - 1 = omega (arith, l.invariant.1.inside) in
-    lower-end xs l.part (length xs - 1) (rw done at l.invariant.1) (omega arith)
+    lower_end xs l.part (length xs - 1) (rw done at l.invariant.1) (omega arith)
 
 pub move_down_spec : {M : Type 1} → statement M
 move_down_spec =

@@ -1,7 +1,7 @@
 -- The words move up one by one, from the back.
 use borrow.Author.Rules.{rules}
 use native.Mathlib.Omega.{arith}
-use Rattle.edges.proofs.Moves.{Raised, raise-start, raise-step, raise-end}
+use Rattle.edges.proofs.Moves.{Raised, raise_start, raise_step, raise_end}
 use Rattle.edges.proofs.move_up.Statement.{statement}
 use Rattle.edges.proofs.move_up.Tie as tie
 
@@ -15,7 +15,7 @@ sub-k : tie.Need-overflow-sub-k invariant-loop decreases-loop
 sub-k c = search rules
 
 loop-holds : tie.Need-loop-init invariant-loop decreases-loop
-loop-holds c = raise-start c.args.part.now c.requires
+loop-holds c = raise_start c.args.part.now c.requires
 
 sub_part : tie.Need-overflow-sub-part invariant-loop decreases-loop
 sub_part c = search rules
@@ -41,13 +41,13 @@ loop-less c = search rules
 loop-again : tie.Need-loop-preserved invariant-loop decreases-loop
 loop-again c =
     let l = c.before.before.loop in
-    raise-step c.before.before.before.args.part.now l.part l.k l.invariant (omega arith)
+    raise_step c.before.before.before.args.part.now l.part l.k l.invariant (omega arith)
 
 same_length : tie.Need-same-length invariant-loop decreases-loop
 same_length c = search rules
 
 returns : tie.Need-returns invariant-loop decreases-loop
-returns c = let l = c.before.loop in raise-end c.before.before.args.part.now l.part l.k l.invariant (omega arith)
+returns c = let l = c.before.loop in raise_end c.before.before.args.part.now l.part l.k l.invariant (omega arith)
 
 pub move_up_spec : {M : Type 1} → statement M
 move_up_spec =

@@ -4,10 +4,10 @@ use mathlib.Core.Path.{◌≡◌, refl, sym, ◌∙◌, ap}
 use mathlib.Core.Bool.{true}
 use mathlib.Core.List.{List}
 use lib.ListN.{length}
-use Rattle.session.specs.Layout.{marksOf, inLayout}
+use Rattle.session.specs.Layout.{marks_of, in_layout}
 use Rattle.pair_tables.specs.Tables.{marked}
 use Rattle.promises.specs.Answers.{refused}
-use Rattle.promises.specs.Rules.{editRules, verdict}
+use Rattle.promises.specs.Rules.{edit_rules, verdict}
 use Rattle.reports.proofs.Reported.{reported-same}
 use Rattle.editing.specs.Steps.{kind_of}
 use Rattle.promises.proofs.Passed.{edit-passed}
@@ -20,19 +20,19 @@ use Rattle.edit_calls.proofs.edit.Tie as tie
 abbrev entry : tie.Else1 → tie.Start
 entry e = e.before.before.before.before
 
-passed : (e : tie.Else1) → let a = (entry e).args in verdict (editRules (kind_of a.inserts) a.session.now (length a.changes.now) a.start a.end) ≡ 0
+passed : (e : tie.Else1) → let a = (entry e).args in verdict (edit_rules (kind_of a.inserts) a.session.now (length a.changes.now) a.start a.end) ≡ 0
 passed e = sym e.before.edit-rule.ensures ∙ e.if1.false
 
 abbrev session : tie.Else1 → List ℕ
 session e = (entry e).args.session.now
 
-layout : (e : tie.Else1) → inLayout (session e) ≡ true
+layout : (e : tie.Else1) → in_layout (session e) ≡ true
 layout e = let a = (entry e).args in (edit-passed (kind_of a.inserts) a.session.now (length a.changes.now) a.start a.end (passed e)).0
 
 abbrev rules : tie.After-edit-proper → tie.Else1
 rules d = d.before.before.before
 
-left-layout : (d : tie.After-edit-proper) → inLayout d.edit-proper.new.0 ≡ true
+left-layout : (d : tie.After-edit-proper) → in_layout d.edit-proper.new.0 ≡ true
 left-layout d =
     let e = rules d in
     let a = (entry e).args in
@@ -79,7 +79,7 @@ returns-2 c =
       refuses = λ bad. absurd (bad (passed e));
       accepts = λ ok.
           called-carried (kind_of a.inserts) (session e) a.start a.end w.0 w.2 d.edit-proper.result.trials xs' d.edit-proper.ensures.0
-          (marksOf xs') (d.edit-proper.ensures.1.same c.before.before.if2.true) _ _ _
+          (marks_of xs') (d.edit-proper.ensures.1.same c.before.before.if2.true) _ _ _
           (reported-same xs' d.edit-proper.result.trials a.changes.now c.answered.result c.answered.ensures);
     }
 

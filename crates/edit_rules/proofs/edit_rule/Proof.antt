@@ -2,10 +2,10 @@
 use borrow.Author.Rules.{rules}
 use native.Mathlib.Omega.{arith}
 use mathlib.Core.Path.{◌≡◌, sym, ◌∙◌}
-use Rattle.session.proofs.Decoded.{layout-limits}
+use Rattle.session.proofs.Decoded.{layout_limits}
 use Rattle.promises.specs.Rules.{verdict}
-use Rattle.editing.specs.Steps.{kind_of, sharedRules}
-use Rattle.edit_rules.proofs.Ruled.{edit-broken, shared-passed, insert-present, insert-full, insert-none, delete-absent, delete-none}
+use Rattle.editing.specs.Steps.{kind_of, shared_rules}
+use Rattle.edit_rules.proofs.Ruled.{edit-broken, shared_passed, insert_present, insert-full, insert-none, delete_absent, delete_none}
 use Rattle.edit_rules.proofs.edit_rule.Statement.{statement}
 use Rattle.edit_rules.proofs.edit_rule.Tie as tie
 
@@ -19,17 +19,17 @@ returns c = let a = c.before.before.before.args in edit-broken a.session.now a.r
 abbrev entry : tie.After-edge-in → tie.Start
 entry p = p.before.before.before.before
 
-passed : (e : tie.Else1) → let a = e.before.before.before.args in verdict (sharedRules a.session.now a.room a.start a.end) ≡ 0
+passed : (e : tie.Else1) → let a = e.before.before.before.args in verdict (shared_rules a.session.now a.room a.start a.end) ≡ 0
 passed e = sym e.before.shared-rule.ensures ∙ e.if1.false
 
 edge-in-requires : tie.Need-edge-in-requires
-edge-in-requires c κs = let a = c.before.before.before.args in let w = shared-passed a.session.now a.room a.start a.end (passed c) in (w.0, (w.1, w.2))
+edge-in-requires c κs = let a = c.before.before.before.args in let w = shared_passed a.session.now a.room a.start a.end (passed c) in (w.0, (w.1, w.2))
 
 returns-2 : tie.Need-returns-2
 returns-2 c =
     let p = c.before.before in
     let a = (entry p).args in
-    rw c.before.if2.true (insert-present a.session.now a.room a.start a.end (passed p.before) _ p.edge_in.ensures c.if3.true)
+    rw c.before.if2.true (insert_present a.session.now a.room a.start a.end (passed p.before) _ p.edge_in.ensures c.if3.true)
 
 cast-if4 : tie.Need-overflow-cast-if4
 cast-if4 c = search rules
@@ -38,7 +38,7 @@ shared-slice-read-if4 : tie.Need-shared-slice-read-if4
 shared-slice-read-if4 c =
     let p = c.before.before.before in
     let a = (entry p).args in
-    omega (arith, layout-limits a.session.now (shared-passed a.session.now a.room a.start a.end (passed p.before)).0)
+    omega (arith, layout_limits a.session.now (shared_passed a.session.now a.room a.start a.end (passed p.before)).0)
 
 returns-3 : tie.Need-returns-3
 returns-3 c =
@@ -56,13 +56,13 @@ returns-5 : tie.Need-returns-5
 returns-5 c =
     let p = c.before.before in
     let a = (entry p).args in
-    rw c.before.if2.false (delete-absent a.session.now a.room a.start a.end (passed p.before) _ p.edge_in.ensures c.if5.true)
+    rw c.before.if2.false (delete_absent a.session.now a.room a.start a.end (passed p.before) _ p.edge_in.ensures c.if5.true)
 
 returns-6 : tie.Need-returns-6
 returns-6 c =
     let p = c.before.before in
     let a = (entry p).args in
-    rw c.before.if2.false (delete-none a.session.now a.room a.start a.end (passed p.before) _ p.edge_in.ensures c.if5.false)
+    rw c.before.if2.false (delete_none a.session.now a.room a.start a.end (passed p.before) _ p.edge_in.ensures c.if5.false)
 
 pub edit-rule-spec : {M : Type 1} → statement M
 edit-rule-spec =

@@ -2,7 +2,7 @@
 use borrow.Author.Rules.{rules}
 use mathlib.Core.Path.{refl}
 use Rattle.frames.specs.Machine.{Memory, memory}
-use Rattle.frames.proofs.Passing.{unbroken-input, block_refused, block-passed-over}
+use Rattle.frames.proofs.Passing.{unbroken_input, block_refused, block-passed-over}
 use Rattle.frame_input.proofs.answer_block.Statement.{statement}
 use Rattle.frame_input.proofs.answer_block.Tie as tie
 
@@ -39,7 +39,7 @@ returns c =
 pass-over-requires : tie.Need-pass-over-requires
 pass-over-requires c κs =
     let s = c.before.before.before.before.before.before.before.before.before.before.before.before.before.before.before.before.before.before.before.before in
-    unbroken-input (lent s) s.args.front.now _ c.before.before.before.before.before.before.before.input-rule.ensures c.before.before.before.before.before.before.if1.false
+    unbroken_input (lent s) s.args.front.now _ c.before.before.before.before.before.before.before.input-rule.ensures c.before.before.before.before.before.before.if1.false
 
 same-length-7 : tie.Need-same-length-7
 same-length-7 c = search rules

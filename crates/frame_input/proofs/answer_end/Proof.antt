@@ -5,7 +5,7 @@ use lib.Seq.{length-take-le}
 use Rattle.frames.specs.Machine.{Memory, memory}
 use Rattle.frames.proofs.Fronts.{keeps-inside}
 use Rattle.frames.proofs.Takes.{passed-rules}
-use Rattle.frames.proofs.Passing.{input-passed, unbroken-input, end_refused, end_none, end_line}
+use Rattle.frames.proofs.Passing.{input_passed, unbroken_input, end_refused, end_none, end_line}
 use Rattle.frame_input.proofs.answer_end.Statement.{statement}
 use Rattle.frame_input.proofs.answer_end.Tie as tie
 
@@ -66,8 +66,8 @@ answer-line-requires : tie.Need-answer-line-requires
 answer-line-requires c κs =
     let s = c.before.before.before.before.before.before.before.before.before.before.before.before.before.before.before.before.before.before.before.before in
     passed-rules (lent s)
-    (input-passed (lent s) s.args.front.now
-    (unbroken-input (lent s) s.args.front.now _ c.before.before.before.before.before.before.before.before.before.input-rule.ensures c.before.before.before.before.before.before.before.before.if1.false)).0
+    (input_passed (lent s) s.args.front.now
+    (unbroken_input (lent s) s.args.front.now _ c.before.before.before.before.before.before.before.before.before.input-rule.ensures c.before.before.before.before.before.before.before.before.if1.false)).0
 
 same-length-11 : tie.Need-same-length-11
 same-length-11 c = search rules

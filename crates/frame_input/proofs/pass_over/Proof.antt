@@ -8,10 +8,10 @@ use mathlib.Core.List.{List}
 use lib.ListN.{length}
 use lib.Seq.{length-take-le}
 use borrow.Author.Tests.{leb-true, leb-false}
-use Rattle.frames.specs.Machine.{Memory, memory, outputSize}
+use Rattle.frames.specs.Machine.{Memory, memory, output_size}
 use Rattle.frames.specs.Blocks.{Point, point, GoesOn}
 use Rattle.frames.proofs.Fronts.{keeps-inside}
-use Rattle.frames.proofs.Passing.{SameLengths, Upto, pass-start, pass-open, part, part-passed, part-fits, part-long, pass-line, pass-stops, gathered-at}
+use Rattle.frames.proofs.Passing.{SameLengths, Upto, pass_start, pass_open, part, part-passed, part-fits, part-long, pass_line, pass_stops, gathered_at}
 use Rattle.frame_input.proofs.pass_over.Statement.{statement}
 use Rattle.frame_input.proofs.pass_over.Tie as tie
 
@@ -44,14 +44,14 @@ upto h = h.loop.invariant.0
 on : (a : tie.After-gather invariant-loop decreases-loop) → GoesOn (block a.before.before.before.before) (here a.before.before.before.before)
 on a =
     let l = a.before.before.before.before.loop in
-    let room : outputSize ≤ length l.out - l.written = leb-true outputSize (length l.out - l.written) a.before.before.if1.true in
+    let room : output_size ≤ length l.out - l.written = leb-true output_size (length l.out - l.written) a.before.before.if1.true in
     (a.before.before.before.loop-test.true, omega (arith, room, (upto a.before.before.before.before).inside))
 
 falls : (a : tie.After-gather invariant-loop decreases-loop) → length (block a.before.before.before.before) - a.gather.result.at < length (block a.before.before.before.before) - a.before.before.before.before.loop.at
 falls a =
     let l = a.before.before.before.before.loop in
     let g = a.gather in
-    let past = gathered-at (block a.before.before.before.before) l.front l.line l.at g.new.0 g.result.used g.result.at g.result.ended (on a).0 g.ensures in
+    let past = gathered_at (block a.before.before.before.before) l.front l.line l.at g.new.0 g.result.used g.result.at g.result.ended (on a).0 g.ensures in
     omega (arith, past.0, past.1)
 
 inside : (a : tie.After-gather invariant-loop decreases-loop) → a.gather.result.used ≤ length a.gather.new.0
@@ -68,7 +68,7 @@ same e =
     record { counts = k.0; words = k.1.0; session = k.1.1.0; room = k.1.1.1.0; out = k.1.1.1.1.1.0 }
 
 loop-holds : tie.Need-loop-init invariant-loop decreases-loop
-loop-holds c = let s = c.before.before.before.before.before.before in (pass-start s.args.block.now s.args.front.now s.args.begun _ s.requires, refl, refl, refl, refl, refl, refl)
+loop-holds c = let s = c.before.before.before.before.before.before in (pass_start s.args.block.now s.args.front.now s.args.begun _ s.requires, refl, refl, refl, refl, refl, refl)
 
 sub-if1 : tie.Need-overflow-sub-if1 invariant-loop decreases-loop
 sub-if1 c = (upto c.before).inside
@@ -115,7 +115,7 @@ loop-again c =
     let h = a.before.before.before.before in
     let i = h.loop.invariant in
     let k = e.answer-line.auto in (
-      pass-line (block h) (begin h) (here h) (upto h) (on a) a.gather.new.0 a.gather.result.used a.gather.result.at
+      pass_line (block h) (begin h) (here h) (upto h) (on a) a.gather.new.0 a.gather.result.used a.gather.result.at
           e.answer-line.result (left e) e.answer-line.ensures (same e) a.gather.result.ended e.before.before.before.before.before.before.before.if2.true a.gather.ensures,
       k.0 ∙ i.1,
       k.1.0 ∙ i.2,
@@ -135,7 +135,7 @@ loop-again-2 c =
     let a = c.before.before.before in
     let h = a.before.before.before.before in
     let i = h.loop.invariant in
-    (pass-open (block h) (begin h) (here h) (upto h) (on a) a.gather.new.0 a.gather.result.used a.gather.result.at a.gather.result.ended c.if2.false a.gather.ensures, i.1, i.2, i.3, i.4, a.gather.auto.0 ∙ i.5, i.6)
+    (pass_open (block h) (begin h) (here h) (upto h) (on a) a.gather.new.0 a.gather.result.used a.gather.result.at a.gather.result.ended c.if2.false a.gather.ensures, i.1, i.2, i.3, i.4, a.gather.auto.0 ∙ i.5, i.6)
 
 same_length : tie.Need-same-length invariant-loop decreases-loop
 same_length c = search rules
@@ -159,8 +159,8 @@ returns : tie.Need-returns invariant-loop decreases-loop
 returns c =
     let h = c.before.before in
     let l = h.loop in
-    let full : length l.out - l.written < outputSize = leb-false outputSize (length l.out - l.written) c.if1.false in
-    (refl, pass-stops (block h) (begin h) (here h) (upto h) (inr (omega (arith, full, (upto h).inside))))
+    let full : length l.out - l.written < output_size = leb-false output_size (length l.out - l.written) c.if1.false in
+    (refl, pass_stops (block h) (begin h) (here h) (upto h) (inr (omega (arith, full, (upto h).inside))))
 
 same-length-7 : tie.Need-same-length-7 invariant-loop decreases-loop
 same-length-7 c = search rules
@@ -183,7 +183,7 @@ same-length-12 c = search rules
 returns-2 : tie.Need-returns-2 invariant-loop decreases-loop
 returns-2 c =
     let h = c.before in
-    (refl, pass-stops (block h) (begin h) (here h) (upto h) (inl c.loop-test.false))
+    (refl, pass_stops (block h) (begin h) (here h) (upto h) (inl c.loop-test.false))
 
 pub pass-over-spec : {M : Type 1} → statement M
 pass-over-spec =

@@ -4,8 +4,8 @@ use native.Mathlib.Omega.{arith}
 use Prim.Native.Nat.{◌≤◌}
 use mathlib.Core.Path.{sym, ◌∙◌}
 use lib.ListN.{length}
-use Rattle.frames.specs.Machine.{Memory, memory, countsSize}
-use Rattle.frames.proofs.Takes.{long-enough, rule-short, rule-counts, rule-none}
+use Rattle.frames.specs.Machine.{Memory, memory, counts_size}
+use Rattle.frames.proofs.Takes.{long_enough, rule-short, rule-counts, rule-none}
 use Rattle.frame_machine.proofs.memory_rule.Statement.{statement}
 use Rattle.frame_machine.proofs.memory_rule.Tie as tie
 
@@ -14,8 +14,8 @@ abbrev lent : tie.Start → Memory
 lent s = memory s.args.counts.now s.args.words.now s.args.session.now s.args.changes.now s.args.out.now
 
 -- what the first test leaves
-long : (e : tie.Else1) → countsSize ≤ length (lent e.before.before.before.before.before.before).counts
-long e = (long-enough (lent e.before.before.before.before.before.before) (sym e.before.too_small.ensures ∙ e.if1.false)).0
+long : (e : tie.Else1) → counts_size ≤ length (lent e.before.before.before.before.before.before).counts
+long e = (long_enough (lent e.before.before.before.before.before.before) (sym e.before.too_small.ensures ∙ e.if1.false)).0
 
 too-small-requires : tie.Need-too-small-requires
 too-small-requires c κs = search rules

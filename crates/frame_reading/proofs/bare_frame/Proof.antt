@@ -1,10 +1,10 @@
 -- No field.
-use Rattle.frames.proofs.Kinded.{bare-wrong, run-right, walk-right}
+use Rattle.frames.proofs.Kinded.{bare_wrong, run-right, walk-right}
 use Rattle.frame_reading.proofs.bare_frame.Statement.{statement}
 use Rattle.frame_reading.proofs.bare_frame.Tie as tie
 
 returns : tie.Need-returns
-returns c = bare-wrong c.before.args.fields.now c.before.args.runs c.if1.true
+returns c = bare_wrong c.before.args.fields.now c.before.args.runs c.if1.true
 
 returns-2 : tie.Need-returns-2
 returns-2 c = rw c.if2.true (run-right c.before.before.args.fields.now c.before.if1.false)

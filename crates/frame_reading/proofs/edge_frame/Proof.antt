@@ -1,12 +1,12 @@
 -- Two fields of four digits.
 use borrow.Author.Rules.{rules}
 use native.Mathlib.Omega.{arith}
-use Rattle.frames.proofs.Kinded.{some-digits, edge-wrong, insert-right, delete-right}
+use Rattle.frames.proofs.Kinded.{some-digits, edge_wrong, insert-right, delete_right}
 use Rattle.frame_reading.proofs.edge_frame.Statement.{statement}
 use Rattle.frame_reading.proofs.edge_frame.Tie as tie
 
 returns : tie.Need-returns
-returns c = edge-wrong c.before.before.args.fields.now c.before.before.args.inserts c.if1.true
+returns c = edge_wrong c.before.before.args.fields.now c.before.before.args.inserts c.if1.true
 
 sub_number : tie.Need-overflow-sub-number
 sub_number c = search rules
@@ -36,7 +36,7 @@ returns-2 : tie.Need-returns-2
 returns-2 c = let s = c.before.before.before.before.before.before.before in rw (c.if2.true, c.before.before.before.number.ensures, c.before.number2.ensures) (insert-right s.args.fields.now c.before.before.before.before.before.if1.false)
 
 returns-3 : tie.Need-returns-3
-returns-3 c = let s = c.before.before.before.before.before.before.before in rw (c.if2.false, c.before.before.before.number.ensures, c.before.number2.ensures) (delete-right s.args.fields.now c.before.before.before.before.before.if1.false)
+returns-3 c = let s = c.before.before.before.before.before.before.before in rw (c.if2.false, c.before.before.before.number.ensures, c.before.number2.ensures) (delete_right s.args.fields.now c.before.before.before.before.before.if1.false)
 
 pub edge-frame-spec : {M : Type 1} → statement M
 edge-frame-spec =

@@ -1,12 +1,12 @@
 -- One field of four digits.
 use borrow.Author.Rules.{rules}
 use native.Mathlib.Omega.{arith}
-use Rattle.frames.proofs.Kinded.{some-digits, node-wrong, node-right}
+use Rattle.frames.proofs.Kinded.{some-digits, node_wrong, node-right}
 use Rattle.frame_reading.proofs.node_frame.Statement.{statement}
 use Rattle.frame_reading.proofs.node_frame.Tie as tie
 
 returns : tie.Need-returns
-returns c = node-wrong c.before.before.args.fields.now c.if1.true
+returns c = node_wrong c.before.before.args.fields.now c.if1.true
 
 sub-half : tie.Need-overflow-sub-half
 sub-half c = search rules

@@ -9,7 +9,7 @@ use borrow.Author.Tests.{not-false}
 use lib.ListN.{length, drop, length-take, length-drop}
 use lib.Seq.{length-take-le, take_all}
 use Rattle.frames.specs.Digits as d
-use Rattle.frames.proofs.Kinded.{hex-part, line-short, line_other, line-spoken}
+use Rattle.frames.proofs.Kinded.{hex_part, line-short, line_other, line-spoken}
 use Rattle.frame_reading.proofs.read_frame.Statement.{statement}
 use Rattle.frame_reading.proofs.read_frame.Tie as tie
 
@@ -32,7 +32,7 @@ number-requires : tie.Need-number-requires
 number-requires c κs =
     let s = c.before.before.before.before.before in
     let line = s.args.line.now in
-    (omega (arith, length-take 2 line), hex-part line 0 2 (held c.before) c.before.before.before.if1.false)
+    (omega (arith, length-take 2 line), hex_part line 0 2 (held c.before) c.before.before.before.if1.false)
 
 sub-spoken : tie.Need-overflow-sub-spoken
 sub-spoken c = search rules
@@ -46,7 +46,7 @@ part-spoken-end c = search rules
 spoken-requires : tie.Need-spoken-requires
 spoken-requires c κs =
     let line = c.before.before.before.before.before.before.before.args.line.now in
-    hex-part line 2 (length line - 2) (held c.before.before.before) (omega (arith, c.before.before.before.before.before.if1.false))
+    hex_part line 2 (length line - 2) (held c.before.before.before) (omega (arith, c.before.before.before.before.before.if1.false))
 
 returns-3 : tie.Need-returns-3
 returns-3 c =

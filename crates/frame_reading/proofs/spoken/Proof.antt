@@ -1,6 +1,6 @@
 -- Each kind by its own function.
 use borrow.Author.Rules.{rules}
-use Rattle.frames.proofs.Kinded.{kind-other}
+use Rattle.frames.proofs.Kinded.{kind_other}
 use Rattle.frame_reading.proofs.spoken.Statement.{statement}
 use Rattle.frame_reading.proofs.spoken.Tie as tie
 
@@ -55,7 +55,7 @@ returns-8 c = rw c.before.match.keys8 c.wide-frame.ensures
 returns-9 : tie.Need-returns-9
 returns-9 c =
     let r = c.match.rest in
-    kind-other c.before.before.args.fields.now c.before.before.args.kind r.0.0.0.0.0.0.0.1 r.0.0.0.0.0.0.1 r.0.0.0.0.0.1
+    kind_other c.before.before.args.fields.now c.before.before.args.kind r.0.0.0.0.0.0.0.1 r.0.0.0.0.0.0.1 r.0.0.0.0.0.1
     r.0.0.0.0.1 r.0.0.0.1 r.0.0.1 r.0.1 r.1
 
 pub spoken-spec : {M : Type 1} → statement M

@@ -2,7 +2,7 @@
 use borrow.Author.Rules.{rules}
 use native.Mathlib.Omega.{arith}
 use Prim.Native.Nat.{◌+◌}
-use Rattle.frames.proofs.Kinded.{some-digits, field-between}
+use Rattle.frames.proofs.Kinded.{some-digits, field_between}
 use Rattle.frame_reading.proofs.state_at.Statement.{statement}
 use Rattle.frame_reading.proofs.state_at.Tie as tie
 
@@ -59,9 +59,9 @@ returns c =
       c.before.before.before.before.half.ensures,
       c.before.before.half2.ensures,
       c.number.ensures,
-      field-between ds a.at (a.at + 4) 4 (omega arith),
-      field-between ds (a.at + 4) (a.at + 8) 4 (omega arith),
-      field-between ds (a.at + 8) (a.at + 8 + a.digits) a.digits (omega arith),
+      field_between ds a.at (a.at + 4) 4 (omega arith),
+      field_between ds (a.at + 4) (a.at + 8) 4 (omega arith),
+      field_between ds (a.at + 8) (a.at + 8 + a.digits) a.digits (omega arith),
     )
 
 pub state-at-spec : {M : Type 1} → statement M

@@ -1,11 +1,11 @@
 -- Links of four digits, from the first field on, plain or inverted.
 use borrow.Author.Rules.{rules}
-use Rattle.frames.proofs.Kinded.{state-wrong, state-right}
+use Rattle.frames.proofs.Kinded.{state_wrong, state-right}
 use Rattle.frame_reading.proofs.state_frame.Statement.{statement}
 use Rattle.frame_reading.proofs.state_frame.Tie as tie
 
 returns : tie.Need-returns
-returns c = state-wrong c.before.before.args.fields.now c.before.before.args.inverted c.if1.true
+returns c = state_wrong c.before.before.args.fields.now c.before.before.args.inverted c.if1.true
 
 state-at-requires : tie.Need-state-at-requires
 state-at-requires c κs = search rules

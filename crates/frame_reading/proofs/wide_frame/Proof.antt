@@ -2,12 +2,12 @@
 use borrow.Author.Rules.{rules}
 use native.Mathlib.Omega.{arith}
 use mathlib.Core.Path.{◌∙◌}
-use Rattle.frames.proofs.Kinded.{some-digits, wide-wrong, wide-other, wide-right}
+use Rattle.frames.proofs.Kinded.{some-digits, wide_wrong, wide_other, wide-right}
 use Rattle.frame_reading.proofs.wide_frame.Statement.{statement}
 use Rattle.frame_reading.proofs.wide_frame.Tie as tie
 
 returns : tie.Need-returns
-returns c = wide-wrong c.before.before.args.fields.now c.if1.true
+returns c = wide_wrong c.before.before.args.fields.now c.if1.true
 
 sub_number : tie.Need-overflow-sub-number
 sub_number c = search rules
@@ -22,7 +22,7 @@ number-requires : tie.Need-number-requires
 number-requires c κs = let s = c.before.before.before in some-digits s.args.fields.now 0 2 8 s.requires (omega arith) (omega arith) (omega arith)
 
 returns-2 : tie.Need-returns-2
-returns-2 c = wide-other c.before.before.before.before.before.args.fields.now c.before.before.before.if1.false (omega (arith, c.before.number.ensures))
+returns-2 c = wide_other c.before.before.before.before.before.args.fields.now c.before.before.before.if1.false (omega (arith, c.before.number.ensures))
 
 state-at-requires : tie.Need-state-at-requires
 state-at-requires c κs = search rules

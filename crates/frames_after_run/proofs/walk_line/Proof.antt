@@ -5,9 +5,9 @@ use Prim.Native.Nat.{◌≤◌}
 use mathlib.Core.Path.{sym, ◌∙◌, ap}
 use lib.ListN.{length}
 use lib.Seq.{length-take-le}
-use Rattle.session.specs.Limits.{maxStates}
+use Rattle.session.specs.Limits.{max_states}
 use Rattle.session.proofs.Tables.{length-section}
-use Rattle.promises.specs.Answers.{toldOrder}
+use Rattle.promises.specs.Answers.{told_order}
 use Rattle.frames.proofs.Few.{ordered-few}
 use Rattle.frames.proofs.Takes.{printed-front}
 use Rattle.frames_after_run.proofs.walk_line.Statement.{statement}
@@ -23,11 +23,11 @@ cast-states : tie.Need-overflow-cast-states
 cast-states c = search rules
 
 -- as many states as the trigger may have
-few : (c : tie.After-put-order-arg) → c.before.before.answer.given.0.0 ≤ maxStates
-few c = let o = c.before.before.before.before.before.order in ordered-few c.before.before.before.before.before.before.before.before.args.session.now o.result c.before.before.answer.given.0.0 o.ensures (ap toldOrder c.before.before.answer.given.1)
+few : (c : tie.After-put-order-arg) → c.before.before.answer.given.0.0 ≤ max_states
+few c = let o = c.before.before.before.before.before.order in ordered-few c.before.before.before.before.before.before.before.before.args.session.now o.result c.before.before.answer.given.0.0 o.ensures (ap told_order c.before.before.answer.given.1)
 
 short : (c : tie.After-put-order-arg) → c.before.before.answer.given.0.0 ≤ length c.before.before.before.before.before.order.result.states
-short c = omega (arith, few c, ap length c.before.before.before.before.before.order.ensures.states ∙ length-section maxStates _)
+short c = omega (arith, few c, ap length c.before.before.before.before.before.order.ensures.states ∙ length-section max_states _)
 
 array-share-prefix-states : tie.Need-array-share-prefix-states
 array-share-prefix-states c = short c
@@ -51,7 +51,7 @@ returns : tie.Need-returns
 returns c = λ counts words room. record {
   order = c.before.before.before.before.before.before.before.before.before.order.result;
   orders = c.before.before.before.before.before.before.before.before.before.order.ensures;
-  prints = rw (ap toldOrder c.before.before.before.before.before.before.answer.given.1) (printed-front counts words _ room c.before.before.put_order.ensures);
+  prints = rw (ap told_order c.before.before.before.before.before.before.answer.given.1) (printed-front counts words _ room c.before.before.put_order.ensures);
 }
 
 same-length-2 : tie.Need-same-length-2
@@ -61,7 +61,7 @@ returns-2 : tie.Need-returns-2
 returns-2 c = λ counts words room. record {
   order = c.before.before.before.before.before.before.before.before.order.result;
   orders = c.before.before.before.before.before.before.before.before.order.ensures;
-  prints = rw (ap toldOrder c.before.before.before.before.before.answer2.given.1) (printed-front counts words _ room c.before.before.put-refusal.ensures);
+  prints = rw (ap told_order c.before.before.before.before.before.answer2.given.1) (printed-front counts words _ room c.before.before.put-refusal.ensures);
 }
 
 pub walk-line-spec : {M : Type 1} → statement M

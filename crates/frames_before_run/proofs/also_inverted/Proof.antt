@@ -5,7 +5,7 @@ use Prim.Native.Nat.{ℕ, ◌+◌, ◌≤◌}
 use mathlib.Core.Path.{◌∙◌, ap, ap₂}
 use mathlib.Core.Bool.{cond}
 use lib.Pow.{pow_mono}
-use Rattle.session.specs.Limits.{maxStates}
+use Rattle.session.specs.Limits.{max_states}
 use Rattle.frames.proofs.Kept.{next_bit}
 use Rattle.frames_before_run.proofs.also_inverted.Statement.{statement}
 use Rattle.frames_before_run.proofs.also_inverted.Tie as tie
@@ -28,7 +28,7 @@ returns c =
 add-result : tie.Need-overflow-add-result
 add-result c =
     let a = c.before.before.before.args in
-    let few : a.n + 1 ≤ maxStates = omega arith in
+    let few : a.n + 1 ≤ max_states = omega arith in
     omega (arith, returns c, next_bit a.inverted a.set a.n, pow_mono few)
 
 pub also-inverted-spec : {M : Type 1} → statement M

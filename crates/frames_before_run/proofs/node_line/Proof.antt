@@ -4,7 +4,7 @@ use borrow.Author.Tests.{le-leb, lt-leb}
 use mathlib.Core.Path.{refl}
 use native.Mathlib.Omega.{arith}
 use lib.ListN.{get_or}
-use Rattle.session.specs.Limits.{maxNodes}
+use Rattle.session.specs.Limits.{max_nodes}
 use Rattle.frames.proofs.Takes.{printed-front}
 use Rattle.frames_before_run.proofs.node_line.Statement.{statement}
 use Rattle.frames_before_run.proofs.node_line.Tie as tie
@@ -22,7 +22,7 @@ same_length : tie.Need-same-length
 same_length c = search rules
 
 returns : tie.Need-returns
-returns c = λ s k. let a = c.before.before.before.before.before.before.before.before.before.args in rw (le-leb maxNodes (get_or a.counts.now 2 0) c.before.before.before.before.if1.true) (printed-front a.counts.now a.words.now s k c.before.before.put-refusal.ensures)
+returns c = λ s k. let a = c.before.before.before.before.before.before.before.before.before.args in rw (le-leb max_nodes (get_or a.counts.now 2 0) c.before.before.before.before.if1.true) (printed-front a.counts.now a.words.now s k c.before.before.put-refusal.ensures)
 
 add-counts : tie.Need-overflow-add-counts
 add-counts c = search rules
@@ -49,7 +49,7 @@ same-length-3 : tie.Need-same-length-3
 same-length-3 c = search rules
 
 returns-2 : tie.Need-returns-2
-returns-2 c = λ s k. let a = c.before.before.before.before.before.args in rw (lt-leb maxNodes (get_or a.counts.now 2 0) c.if1.false) record { many = refl; left = refl }
+returns-2 c = λ s k. let a = c.before.before.before.before.before.args in rw (lt-leb max_nodes (get_or a.counts.now 2 0) c.if1.false) record { many = refl; left = refl }
 
 pub node-line-spec : {M : Type 1} → statement M
 node-line-spec =

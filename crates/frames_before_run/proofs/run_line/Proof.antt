@@ -6,7 +6,7 @@ use Rattle.promises.specs.Rules.{Given}
 use Rattle.promises.specs.Promises.{Loaded}
 use Rattle.frames.specs.Machine.{memory}
 use Rattle.frames.proofs.Few.{loaded-few}
-use Rattle.frames.proofs.Takes.{printed-front, read-parts}
+use Rattle.frames.proofs.Takes.{printed-front, read_parts}
 use Rattle.frames_before_run.proofs.run_line.Statement.{statement}
 use Rattle.frames_before_run.proofs.run_line.Tie as tie
 
@@ -123,7 +123,7 @@ returns c =
     record {
       answer = l.result;
       loads = subst (λ (x : Given). Loaded x a.session.now a.changes.now l.result l.new.0 l.new.1.1.1.1.1.1.1.1.0)
-          (read-parts (memory a.counts.now a.words.now a.session.now a.changes.now a.out.now) k.result k.ensures) l.ensures;
+          (read_parts (memory a.counts.now a.words.now a.session.now a.changes.now a.out.now) k.result k.ensures) l.ensures;
       prints = rw (← c.before.before.before.before.before.before.before.move-on.ensures) (printed-front _ _ _ _ c.before.before.put-answer.ensures);
     }
 

@@ -7,8 +7,8 @@ use mathlib.Core.Path.{◌≡◌, refl, ◌∙◌, ap}
 use mathlib.Core.Bool.{cond}
 use lib.ListN.{get_or, length-set}
 use lib.Seq.{get_or-set_other}
-use Rattle.session.specs.Limits.{maxStates}
-use Rattle.frames.specs.Machine.{invertedIn, linksIn}
+use Rattle.session.specs.Limits.{max_states}
+use Rattle.frames.specs.Machine.{inverted_in, links_in}
 use Rattle.frames.proofs.Takes.{printed-front}
 use Rattle.frames_before_run.proofs.state_line.Statement.{statement}
 use Rattle.frames_before_run.proofs.state_line.Tie as tie
@@ -26,7 +26,7 @@ same_length : tie.Need-same-length
 same_length c = search rules
 
 returns : tie.Need-returns
-returns c = λ s k. let a = c.before.before.before.before.before.before.before.before.before.args in rw (le-leb maxStates (get_or a.counts.now 1 0) c.before.before.before.before.if1.true) (printed-front a.counts.now a.words.now s k c.before.before.put-refusal.ensures)
+returns c = λ s k. let a = c.before.before.before.before.before.before.before.before.before.args in rw (le-leb max_states (get_or a.counts.now 1 0) c.before.before.before.before.if1.true) (printed-front a.counts.now a.words.now s k c.before.before.put-refusal.ensures)
 
 add-counts : tie.Need-overflow-add-counts
 add-counts c = search rules
@@ -85,10 +85,10 @@ returns-2 c = λ s k.
     let a = c.before.before.before.before.before.before.before.args in
     let n = get_or a.counts.now 1 0 in
     let more : ℕ → ℕ = λ w. w % 2 ^ n + cond a.state.inverted (2 ^ n) 0 in
-    let joined : c.also-inverted.result ≡ more (get_or a.counts.now invertedIn 0) =
+    let joined : c.also-inverted.result ≡ more (get_or a.counts.now inverted_in 0) =
     c.also-inverted.ensures
-    ∙ ap more (get_or-set_other a.counts.now (linksIn + n) invertedIn a.state.links 0 (λ e. absurd (omega (arith, e)))) in
-    rw (lt-leb maxStates n c.before.before.if1.false, joined) record { many = refl; left = refl }
+    ∙ ap more (get_or-set_other a.counts.now (links_in + n) inverted_in a.state.links 0 (λ e. absurd (omega (arith, e)))) in
+    rw (lt-leb max_states n c.before.before.if1.false, joined) record { many = refl; left = refl }
 
 pub state-line-spec : {M : Type 1} → statement M
 state-line-spec =

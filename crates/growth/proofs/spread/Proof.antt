@@ -2,8 +2,8 @@
 use Prim.Native.Nat.{◌-◌}
 use borrow.Author.Rules.{rules}
 use native.Mathlib.Omega.{arith}
-use Rattle.edge_indexes.proofs.Incoming.{chained-less}
-use Rattle.growth.proofs.Spreading.{Spreading, spreading-start, spreading-more, spreading-done, starts-inside}
+use Rattle.edge_indexes.proofs.Incoming.{chained_less}
+use Rattle.growth.proofs.Spreading.{Spreading, spreading_start, spreading_more, spreading_done, starts-inside}
 use Rattle.growth.proofs.spread.Statement.{statement}
 use Rattle.growth.proofs.spread.Tie as tie
 
@@ -27,7 +27,7 @@ slice-read-calling : tie.Need-slice-read-calling invariant-loop decreases-loop
 slice-read-calling c = search rules
 
 calling-requires : tie.Need-calling-requires invariant-loop decreases-loop
-calling-requires c κs = let s = c.before.before.before.before.before.before.before.before.before.before.before.before.before in (omega (arith, s.requires.1.0.few-states), λ some. s.requires.1.2)
+calling-requires c κs = let s = c.before.before.before.before.before.before.before.before.before.before.before.before.before in (omega (arith, s.requires.1.0.few_states), λ some. s.requires.1.2)
 
 mul_next : tie.Need-overflow-mul-next invariant-loop decreases-loop
 mul_next c = search rules
@@ -42,7 +42,7 @@ loop-holds : tie.Need-loop-init invariant-loop decreases-loop
 loop-holds c =
     let s = c.before.before.before.before.before.before.before.before.before.before.before.before.before.before.before in
     let out = c.before.before.before.before.before.take_out in
-    spreading-start s.requires.1.1 s.args.fresh.now s.args.v c.before.calling.result s.args.trials.now out.new.0
+    spreading_start s.requires.1.1 s.args.fresh.now s.args.v c.before.calling.result s.args.trials.now out.new.0
     (search rules) (search rules) out.ensures.0
 
 sub-k : tie.Need-overflow-sub-k invariant-loop decreases-loop
@@ -84,12 +84,12 @@ cast-next-2 c = omega (arith, c.shared-slice-known10.given (c.before.before.befo
 loop-less : tie.Need-loop-smaller invariant-loop decreases-loop
 loop-less c =
     let t = c.before.before.before.before.before.before.before.before.before.before in
-    chained-less (start_of t.before).pre.1.1 t.before.loop.invariant.chain t.loop-test.true
+    chained_less (start_of t.before).pre.1.1 t.before.loop.invariant.chain t.loop-test.true
 
 loop-again : tie.Need-loop-preserved invariant-loop decreases-loop
 loop-again c =
     let t = c.before.before.before.before.before.before.before.before.before.before in
-    spreading-more (start_of t.before).pre.1.1 _ _ _ _ _ t.before.loop.invariant t.loop-test.true c.before.before.before.before.before.try-at.ensures
+    spreading_more (start_of t.before).pre.1.1 _ _ _ _ _ t.before.loop.invariant t.loop-test.true c.before.before.before.before.before.try-at.ensures
 
 same_length : tie.Need-same-length invariant-loop decreases-loop
 same_length c = search rules
@@ -101,7 +101,7 @@ returns : tie.Need-returns invariant-loop decreases-loop
 returns c =
     let h = c.before in
     let s = start_of h in
-    spreading-done s.args.links.now (rw c.loop-test.false at h.loop.invariant) s.pre.0.1 s.pre.0.2
+    spreading_done s.args.links.now (rw c.loop-test.false at h.loop.invariant) s.pre.0.1 s.pre.0.2
     h.before.before.calling.ensures h.before.before.before.before.before.before.take_out.ensures.1
 
 pub spread-spec : {M : Type 1} → statement M

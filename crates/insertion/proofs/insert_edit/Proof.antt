@@ -8,20 +8,20 @@ use Rattle.simulation.specs.Sets.{Set}
 use Rattle.bits.specs.Word.{members}
 use Rattle.bits.proofs.Words.{zero-members}
 use Rattle.session.specs.Trigger.{Marks, nodes}
-use Rattle.session.specs.Layout.{graph_of, marksOf, inLayout}
-use Rattle.session.proofs.Decoded.{layout-limits}
+use Rattle.session.specs.Layout.{graph_of, marks_of, in_layout}
+use Rattle.session.proofs.Decoded.{layout_limits}
 use Rattle.pair_tables.specs.Tables.{marked}
 use Rattle.pair_tables.proofs.Zeros.{zeros}
 use Rattle.promises.specs.Rules.{insertion}
-use Rattle.promises.proofs.Edits.{insertion-passed}
+use Rattle.promises.proofs.Edits.{insertion_passed}
 use Rattle.session_parts.proofs.Parts.{marks-long, held-marks}
 use Rattle.editing.specs.Steps.{Begun}
-use Rattle.editing.proofs.Moved.{left-length, saved-calm, saved-before}
-use Rattle.insertion.proofs.Inserted.{in-layout, start-near, end-near, inserted_same, stored-inside, inserted-stored}
+use Rattle.editing.proofs.Moved.{left-length, saved_calm, saved-before}
+use Rattle.insertion.proofs.Inserted.{in_layout_lem, start_near, end_near, inserted_same, stored_inside, inserted_stored}
 use borrow.Author.Rules.{rules}
 use Rattle.insertion.proofs.insert_edit.Statement.{statement}
 use Rattle.insertion.proofs.insert_edit.Tie as tie
-use Rattle.session.specs.Limits.{maxNodes}
+use Rattle.session.specs.Limits.{max_nodes}
 
 -- the session with the edge in it
 abbrev entry : tie.After-insert-edge → tie.Start
@@ -30,15 +30,15 @@ entry i = i.before.before.before.before
 abbrev xs₁ : tie.After-insert-edge → List ℕ
 xs₁ i = i.insert-edge.new.0
 
-layout : (i : tie.After-insert-edge) → inLayout (xs₁ i) ≡ true
+layout : (i : tie.After-insert-edge) → in_layout (xs₁ i) ≡ true
 layout i =
     let s = entry i in
-    in-layout s.args.session.now s.args.start s.args.end s.pre.0 s.pre.1 (xs₁ i) i.insert-edge.ensures
+    in_layout_lem s.args.session.now s.args.start s.args.end s.pre.0 s.pre.1 (xs₁ i) i.insert-edge.ensures
 
 near : (i : tie.After-insert-edge) → (entry i).args.start < nodes (graph_of (xs₁ i))
 near i =
     let s = entry i in
-    start-near s.args.session.now s.args.start s.args.end s.pre.0 s.pre.1 (xs₁ i) i.insert-edge.ensures
+    start_near s.args.session.now s.args.start s.args.end s.pre.0 s.pre.1 (xs₁ i) i.insert-edge.ensures
 
 -- what was tried
 abbrev edge_in : tie.After-seeds-at → tie.After-insert-edge
@@ -55,7 +55,7 @@ abbrev tried : tie.After-put-together → tie.After-try-out
 tried p = p.before.before.before.before.before
 
 both : (p : tie.After-put-together) (u v : ℕ)
-    → let t = tried p in marked p.put-together.new.0 u v ≡ (marked t.try-out.last.1.1.1.0 u v || marksOf (xs₁ (edge_in (seeded t))) u v)
+    → let t = tried p in marked p.put-together.new.0 u v ≡ (marked t.try-out.last.1.1.1.0 u v || marks_of (xs₁ (edge_in (seeded t))) u v)
 both p u v =
     let i = edge_in (seeded (tried p)) in
     p.put-together.ensures.1 u v
@@ -64,7 +64,7 @@ both p u v =
 insert-edge-requires : tie.Need-insert-edge-requires
 insert-edge-requires c κs =
     let s = c.before.before.before in
-    let w = insertion-passed (graph_of s.args.session.now) s.args.start s.args.end s.requires.1 in
+    let w = insertion_passed (graph_of s.args.session.now) s.args.start s.args.end s.requires.1 in
     (s.requires.0, ((w.0, w.1), w.3))
 
 seeds-at-requires : tie.Need-seeds-at-requires
@@ -73,7 +73,7 @@ seeds-at-requires c κs =
     let s = entry i in (
       layout i,
       near i,
-      end-near s.args.session.now s.args.start s.args.end s.pre.0 s.pre.1 (xs₁ i) i.insert-edge.ensures,
+      end_near s.args.session.now s.args.start s.args.end s.pre.0 s.pre.1 (xs₁ i) i.insert-edge.ensures,
     )
 
 same_length : tie.Need-same-length
@@ -87,7 +87,7 @@ returns c =
       inserted_same a.session.now a.start a.end s.pre.0 s.pre.1 (xs₁ i) i.insert-edge.ensures
           (λ u.
           sym (ap (λ (X : Set). X u) c.before.seeds-at.ensures) ∙ ap (λ (w : ℕ). members w u) c.if1.true ∙ zero-members u),
-      saved-calm insertion a.session.now a.start a.end s.pre.0 s.pre.1 (xs₁ i) i.insert-edge.ensures _,
+      saved_calm insertion a.session.now a.start a.end s.pre.0 s.pre.1 (xs₁ i) i.insert-edge.ensures _,
     )
 
 marks-of-requires : tie.Need-marks-of-requires
@@ -105,7 +105,7 @@ try-out-requires : tie.Need-try-out-requires
 try-out-requires c κs =
     let d = c.before.before.before.before.before.before.before.before.before in
     let i = edge_in d in
-    ((layout i, near i, refl, zeros maxNodes), ((entry i).args.end, d.seeds-at.ensures))
+    ((layout i, near i, refl, zeros max_nodes), ((entry i).args.end, d.seeds-at.ensures))
 
 slice-aggregate-put-together : tie.Need-slice-aggregate-put-together
 slice-aggregate-put-together c = search rules
@@ -130,7 +130,7 @@ store-marks-requires c κs =
     let s = entry i in (
       layout i,
       p.put-together.ensures.0 ∙ (begun t).left.long,
-      stored-inside s.args.session.now s.args.start s.args.end s.pre.0 s.pre.1 (xs₁ i) i.insert-edge.ensures
+      stored_inside s.args.session.now s.args.start s.args.end s.pre.0 s.pre.1 (xs₁ i) i.insert-edge.ensures
           (begun t).trials t.try-out.last.1.1.1.0 p.put-together.new.0 (begun t).tried (begun t).left (both p),
     )
 
@@ -139,8 +139,8 @@ same-length-2 c =
     let m = c.before.before in
     let i = edge_in (seeded (tried m.before.before.before.before)) in
     let s = entry i in
-    left-length _ _ _ (xs₁ i) m.store-marks.new.0 (layout-limits (xs₁ i) (layout i)).long m.store-marks.ensures
-    ∙ left-length _ _ _ s.args.session.now (xs₁ i) (layout-limits s.args.session.now s.pre.0).long i.insert-edge.ensures
+    left-length _ _ _ (xs₁ i) m.store-marks.new.0 (layout_limits (xs₁ i) (layout i)).long m.store-marks.ensures
+    ∙ left-length _ _ _ s.args.session.now (xs₁ i) (layout_limits s.args.session.now s.pre.0).long i.insert-edge.ensures
 
 same-length-3 : tie.Need-same-length-3
 same-length-3 c = search rules
@@ -154,7 +154,7 @@ returns-2 c =
     let s = entry i in
     let a = s.args in
     let saved = t.before.before.before.before.before in (
-      inserted-stored a.session.now a.start a.end s.pre.0 s.pre.1 (xs₁ i) i.insert-edge.ensures
+      inserted_stored a.session.now a.start a.end s.pre.0 s.pre.1 (xs₁ i) i.insert-edge.ensures
           (begun t).trials t.try-out.last.1.1.1.0 p.put-together.new.0 (begun t).tried (begun t).left (both p) t.try-out.result (begun t).counted _ m.store-marks.ensures,
       saved-before insertion a.session.now a.start a.end s.pre.0 s.pre.1 (xs₁ i) i.insert-edge.ensures _ _
           (saved.copy-words.ensures ∙ saved.before.marks-of.ensures),

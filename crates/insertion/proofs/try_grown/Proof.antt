@@ -1,18 +1,18 @@
 -- One index serves growth and refinement.
 use native.Mathlib.Omega.{arith}
 use mathlib.Core.Path.{refl}
-use Rattle.session.specs.Layout.{triggerOf, graph_of, marksOf}
-use Rattle.session.proofs.Decoded.{Bounded, LayoutFacts, layout-limits, layout-facts}
+use Rattle.session.specs.Layout.{trigger_of, graph_of, marks_of}
+use Rattle.session.proofs.Decoded.{Bounded, LayoutFacts, layout_limits, layout-facts}
 use Rattle.pair_tables.proofs.Zeros.{zeros}
-use Rattle.promises.specs.Standing.{trialSet}
+use Rattle.promises.specs.Standing.{trial_set}
 use Rattle.editing.specs.Steps.{Holds}
 use borrow.Author.Rules.{rules}
 use Rattle.insertion.proofs.try_grown.Statement.{statement}
 use Rattle.insertion.proofs.try_grown.Tie as tie
-use Rattle.session.specs.Limits.{maxNodes}
+use Rattle.session.specs.Limits.{max_nodes}
 
 abbrev bounded : (s : tie.Start) → Bounded s.args.session.now
-bounded s = layout-limits s.args.session.now s.requires.0.0
+bounded s = layout_limits s.args.session.now s.requires.0.0
 
 abbrev facts : (s : tie.Start) → LayoutFacts s.args.session.now
 facts s = layout-facts s.args.session.now s.requires.0.0
@@ -23,7 +23,7 @@ entry t = t.before.before.before.before.before.before.before.before.before.befor
 
 tried : (t : tie.After-try-pairs)
     → let s = entry t in let xs = s.args.session.now in
-    Holds xs (trialSet (triggerOf xs) (graph_of xs) (marksOf xs) s.args.start s.pre.1.0) t.try-pairs.new.1.1.1.1.1.0
+    Holds xs (trial_set (trigger_of xs) (graph_of xs) (marks_of xs) s.args.start s.pre.1.0) t.try-pairs.new.1.1.1.1.1.0
 tried t = let s = entry t in t.try-pairs.ensures s.pre.1.0 s.pre.1.1
 
 shared-slice-read-states : tie.Need-shared-slice-read-states
@@ -45,7 +45,7 @@ slice-aggregate-index-2 : tie.Need-slice-aggregate-index-2
 slice-aggregate-index-2 c = search rules
 
 index-requires : tie.Need-index-requires
-index-requires c κs = let s = c.before.before.before.before.before.before.before in rw c.before.before.edges-of.ensures (((facts s).graph.few-edges, refl, refl), zeros maxNodes)
+index-requires c κs = let s = c.before.before.before.before.before.before.before in rw c.before.before.edges-of.ensures (((facts s).graph.few_edges, refl, refl), zeros max_nodes)
 
 slice-aggregate-try-pairs : tie.Need-slice-aggregate-try-pairs
 slice-aggregate-try-pairs c = search rules
@@ -61,7 +61,7 @@ pairs-in-requires c κs =
     let s = c.before.before.before.before.before.before.before.before.before.before.before.before.before.before.before.before.before in
     let b = bounded s in
     let t = tried c.before.before.before in
-    (b.few-states, b.few-nodes, omega (arith, b.few-nodes, t.long), λ u v e. omega (arith, (t.inside u v e).0, (facts s).counts.0))
+    (b.few_states, b.few_nodes, omega (arith, b.few_nodes, t.long), λ u v e. omega (arith, (t.inside u v e).0, (facts s).counts.0))
 
 slice-aggregate-begin : tie.Need-slice-aggregate-begin
 slice-aggregate-begin c = search rules

@@ -7,12 +7,12 @@ use lib.ListN.{set, get_or}
 use lib.Seq.{get_or-set_same, get_or-set_other}
 use borrow.Author.Tests.{not-false}
 use Rattle.simulation.specs.Sets.{count}
-use Rattle.bits.specs.Word.{members, setBits}
-use Rattle.session.specs.Layout.{triggerOf, graph_of, marksOf}
+use Rattle.bits.specs.Word.{members, set_bits}
+use Rattle.session.specs.Layout.{trigger_of, graph_of, marks_of}
 use Rattle.session.proofs.Decoded.{LayoutFacts, layout-facts}
-use Rattle.pair_tables.proofs.Tabling.{pairs-single}
-use Rattle.promises.specs.Standing.{trialSet}
-use Rattle.editing.specs.Steps.{Holds, seedsOf}
+use Rattle.pair_tables.proofs.Tabling.{pairs_single}
+use Rattle.promises.specs.Standing.{trial_set}
+use Rattle.editing.specs.Steps.{Holds, seeds_of}
 use Rattle.trials.proofs.Lonely.{alone-held}
 use borrow.Author.Rules.{rules}
 use Rattle.insertion.proofs.try_out.Statement.{statement}
@@ -30,8 +30,8 @@ seeded s = set s.args.table.now s.args.start s.args.seeds
 
 held : (e : tie.Else1) (b : ℕ)
     → let s = entry e in let xs = s.args.session.now in
-    members s.args.seeds ≡ seedsOf xs s.args.start b
-    → Holds xs (trialSet (triggerOf xs) (graph_of xs) (marksOf xs) s.args.start b) (seeded s)
+    members s.args.seeds ≡ seeds_of xs s.args.start b
+    → Holds xs (trial_set (trigger_of xs) (graph_of xs) (marks_of xs) s.args.start b) (seeded s)
 held e b is =
     let s = entry e in
     let a = s.args in
@@ -93,8 +93,8 @@ returns-2 c =
       left = c.before.before.before.begin-at.ensures;
       counted =
           c.size.ensures
-          ∙ ap (λ (w : ℕ). count setBits (members w)) (sym (get_or-set_same a.table.now a.start a.seeds 0 (omega (arith, s.pre.0.1, s.pre.0.2, f.graph.few))))
-          ∙ sym (pairs-single (seeded s) (get_or a.session.now 0 0) (omega (arith, f.counts.0, f.trigger.few)) (λ u v e. omega (arith, (h.inside u v e).0, f.counts.0)) a.start (others s) _ (omega (arith, s.pre.0.1, f.counts.1)));
+          ∙ ap (λ (w : ℕ). count set_bits (members w)) (sym (get_or-set_same a.table.now a.start a.seeds 0 (omega (arith, s.pre.0.1, s.pre.0.2, f.graph.few))))
+          ∙ sym (pairs_single (seeded s) (get_or a.session.now 0 0) (omega (arith, f.counts.0, f.trigger.few)) (λ u v e. omega (arith, (h.inside u v e).0, f.counts.0)) a.start (others s) _ (omega (arith, s.pre.0.1, f.counts.1)));
     }
 
 pub try-out-spec : {M : Type 1} → statement M

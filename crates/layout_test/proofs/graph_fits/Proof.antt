@@ -1,8 +1,8 @@
 -- `graph_fits` meets its contract: each test is made where those before it hold.
 use Prim.Native.Nat.{◌+◌, ◌-◌}
-use Rattle.session.specs.Limits.{edges_at, marksAt, maxEdges}
+use Rattle.session.specs.Limits.{edges_at, marks_at, max_edges}
 use Rattle.session.specs.Layout.{part, below}
-use Rattle.session.specs.Tests.{graphTest}
+use Rattle.session.specs.Tests.{graph_test}
 use Rattle.simulation.specs.Ordered.{ascends}
 use borrow.Author.Rules.{rules}
 use mathlib.Core.Path.{◌≡◌, sym, ◌∙◌}
@@ -13,10 +13,10 @@ use Rattle.layout_test.proofs.graph_fits.Tie as tie
 -- the parts of the edges, by their lengths
 rest : (c : tie.After-all-zero)
     → let a = c.before.before.before.before.before.before.args in
-    c.all-zero.result ≡ below 1 (part a.session.now (edges_at + a.edges) (maxEdges - a.edges))
+    c.all-zero.result ≡ below 1 (part a.session.now (edges_at + a.edges) (max_edges - a.edges))
 rest c =
     let a = c.before.before.before.before.before.before.args in
-    rw (sub-add-eq marksAt edges_at a.edges) at c.all-zero.ensures
+    rw (sub-add-eq marks_at edges_at a.edges) at c.all-zero.ensures
 
 rises : (c : tie.After-all-ascend) → let a = c.before.before.before.before.before.before.before.before.before.args in c.all-ascend.result ≡ ascends (part a.session.now edges_at a.edges)
 rises c =
@@ -81,7 +81,7 @@ all-named-requires : tie.Need-all-named-requires
 all-named-requires c κs = sym c.before.before.all-ascend.ensures ∙ c.before.if3.true
 
 returns : tie.Need-returns
-unfolding graphTest
+unfolding graph_test
 returns c =
     let three = c.before.before in
     let two = three.before.before.before in
@@ -91,20 +91,20 @@ returns c =
     (rw (add-sub_cancel_left edges_at a.edges) at c.all_named.ensures)
 
 returns-2 : tie.Need-returns-2
-unfolding graphTest
+unfolding graph_test
 returns-2 c =
     let two = c.before.before.before in
     let one = two.before.before.before in
     rw (← one.before.section-fits.ensures, one.if1.true, ← rest two.before, two.if2.true, ← rises c.before, c.if3.false)
 
 returns-3 : tie.Need-returns-3
-unfolding graphTest
+unfolding graph_test
 returns-3 c =
     let one = c.before.before.before in
     rw (← one.before.section-fits.ensures, one.if1.true, ← rest c.before, c.if2.false)
 
 returns-4 : tie.Need-returns-4
-unfolding graphTest
+unfolding graph_test
 returns-4 c = rw (← c.before.section-fits.ensures, c.if1.false)
 
 pub graph-fits-spec : {M : Type 1} → statement M

@@ -7,9 +7,9 @@ use mathlib.Core.Path.{◌≡◌, sym, ◌∙◌}
 use mathlib.Core.Bool.{true, ◌&&◌}
 use mathlib.Core.List.{List}
 use lib.ListN.{get_or}
-use Rattle.session.specs.Layout.{inLayout}
-use Rattle.session.specs.Tests.{triggerTest, graphTest, marksTest}
-use Rattle.layout_test.proofs.Tested.{layout-short, layout-no-states, layout-states, layout-nodes, layout-edges, layout-test, test-masks, test-samples}
+use Rattle.session.specs.Layout.{in_layout}
+use Rattle.session.specs.Tests.{trigger_test, graph_test, marks_test}
+use Rattle.layout_test.proofs.Tested.{layout-short, layout_no_states, layout-states, layout-nodes, layout-edges, layout-test, test-masks, test-samples}
 use Rattle.layout_test.proofs.in_layout.Statement.{statement}
 use Rattle.layout_test.proofs.in_layout.Tie as tie
 
@@ -37,7 +37,7 @@ cast-edges c = omega (arith, c.shared-slice-known4.given 2)
 returns-2 : tie.Need-returns-2
 returns-2 c =
     let long = c.before.before.before.before in
-    sym (layout-no-states long.before.before.args.session.now long.if1.false (omega arith))
+    sym (layout_no_states long.before.before.args.session.now long.if1.false (omega arith))
 
 returns-3 : tie.Need-returns-3
 returns-3 c =
@@ -63,13 +63,13 @@ words c = c.before.before.before.before.before.before.before.before.before.args.
 
 tests : (c : tie.Else5)
     → let xs = words c in
-    inLayout xs
-    ≡ (triggerTest xs (get_or xs 0 0) && (graphTest xs (get_or xs 1 0) (get_or xs 2 0) && marksTest xs (get_or xs 0 0) (get_or xs 1 0)))
+    in_layout xs
+    ≡ (trigger_test xs (get_or xs 0 0) && (graph_test xs (get_or xs 1 0) (get_or xs 2 0) && marks_test xs (get_or xs 0 0) (get_or xs 1 0)))
 tests c = layout-test (words c) (omega arith) (omega arith) (omega arith) (omega arith) (omega arith)
 
 trigger-passed : (c : tie.Else6)
     → let xs = words c.before.before in
-    triggerTest xs (get_or xs 0 0) ≡ true
+    trigger_test xs (get_or xs 0 0) ≡ true
 trigger-passed c = sym c.before.trigger-fits.ensures ∙ not-false _ c.if6.false
 
 returns-6 : tie.Need-returns-6
@@ -88,7 +88,7 @@ marks-fit-requires : tie.Need-marks-fit-requires
 marks-fit-requires c κs =
     let six = c.before.before in
     let xs = words six.before.before in
-    let graph : graphTest xs (get_or xs 1 0) (get_or xs 2 0) ≡ true = sym c.before.graph-fits.ensures ∙ not-false _ c.if7.false in (
+    let graph : graph_test xs (get_or xs 1 0) (get_or xs 2 0) ≡ true = sym c.before.graph-fits.ensures ∙ not-false _ c.if7.false in (
       (omega arith, omega arith, omega arith),
       (
         test-masks xs (get_or xs 0 0) (trigger-passed six) (omega arith) (omega arith),

@@ -3,10 +3,10 @@ use borrow.Author.Rules.{rules}
 use native.Mathlib.Nat.{add-sub_cancel_left}
 use native.Mathlib.Omega.{arith}
 use mathlib.Core.Path.{◌≡◌, sym, ◌∙◌}
-use Rattle.session.specs.Limits.{maxNodes, marksAt, masks_at, valuesAt, samplesAt}
+use Rattle.session.specs.Limits.{max_nodes, marks_at, masks_at, values_at, samples_at}
 use Rattle.session.specs.Layout.{part}
-use Rattle.session.specs.Tests.{fits, marksTest}
-use Rattle.layout_test.proofs.Tested.{part_length, fits-unions}
+use Rattle.session.specs.Tests.{fits, marks_test}
+use Rattle.layout_test.proofs.Tested.{part_length, fits_unions}
 use Rattle.layout_test.proofs.marks_fit.Statement.{statement}
 use Rattle.layout_test.proofs.marks_fit.Tie as tie
 
@@ -58,13 +58,13 @@ unions-fit-requires c κs = search rules
 -- the two unions say whether the section fits
 whole : (c : tie.After-unions-fit)
     → let a = c.before.before.before.before.before.before.args in
-    c.unions-fit.result ≡ fits a.states a.nodes (part a.session.now marksAt maxNodes)
+    c.unions-fit.result ≡ fits a.states a.nodes (part a.session.now marks_at max_nodes)
 whole c =
     let s = c.before.before.before.before.before.before in
     let used = c.before.before.before.gathered in
     let unused = c.before.gathered2 in
     c.unions-fit.ensures
-    ∙ fits-unions s.args.session.now marksAt maxNodes s.args.nodes (omega arith) (omega arith) s.args.states used.result unused.result
+    ∙ fits_unions s.args.session.now marks_at max_nodes s.args.nodes (omega arith) (omega arith) s.args.states used.result unused.result
     (search rules) used.ensures unused.ensures
 
 sub-all-admitted : tie.Need-overflow-sub-all-admitted
@@ -115,21 +115,21 @@ all-admitted-requires c κs =
     let m = s.args.nodes in
     let xs = s.args.session.now in (
       (
-        simp add-sub_cancel_left (part_length xs samplesAt m (omega arith) ∙ sym (part_length xs marksAt m (omega arith))),
-        simp add-sub_cancel_left (part_length xs valuesAt n (omega arith) ∙ sym (part_length xs masks_at n (omega arith))),
+        simp add-sub_cancel_left (part_length xs samples_at m (omega arith) ∙ sym (part_length xs marks_at m (omega arith))),
+        simp add-sub_cancel_left (part_length xs values_at n (omega arith) ∙ sym (part_length xs masks_at n (omega arith))),
         simp add-sub_cancel_left (omega (arith, part_length xs masks_at n (omega arith))),
       ),
       (
         simp add-sub_cancel_left s.requires.1.0,
         (
-          (simp add-sub_cancel_left s.requires.1.1, simp add-sub_cancel_left (omega (arith, part_length xs marksAt m (omega arith)))),
+          (simp add-sub_cancel_left s.requires.1.1, simp add-sub_cancel_left (omega (arith, part_length xs marks_at m (omega arith)))),
           simp add-sub_cancel_left (simp add-sub_cancel_left at g.gathered.ensures),
         ),
       ),
     )
 
 returns : tie.Need-returns
-unfolding marksTest
+unfolding marks_test
 returns c =
     let one = c.before.before.before.before.before.before in
     let s = one.before.before.before.before.before.before.before in
@@ -137,7 +137,7 @@ returns c =
     (simp (add-sub_cancel_left, part_length s.args.session.now masks_at s.args.states (omega arith)) at c.all-admitted.ensures)
 
 returns-2 : tie.Need-returns-2
-unfolding marksTest
+unfolding marks_test
 returns-2 c = rw (← whole c.before, c.if1.false)
 
 pub marks-fit-spec : {M : Type 1} → statement M

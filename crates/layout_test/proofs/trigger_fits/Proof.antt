@@ -1,6 +1,6 @@
 -- `trigger_fits` meets its contract: each section is tested where those before it fit, and the inverted states last.
 use borrow.Author.Rules.{rules}
-use Rattle.session.specs.Tests.{triggerTest}
+use Rattle.session.specs.Tests.{trigger_test}
 use Rattle.layout_test.proofs.trigger_fits.Statement.{statement}
 use Rattle.layout_test.proofs.trigger_fits.Tie as tie
 
@@ -53,7 +53,7 @@ inside-requires : tie.Need-inside-requires
 inside-requires c κs = search rules
 
 returns : tie.Need-returns
-unfolding triggerTest
+unfolding trigger_test
 returns c =
     let three = c.before.before in
     let two = three.before.before.before in
@@ -69,7 +69,7 @@ returns c =
     c.inside.ensures
 
 returns-2 : tie.Need-returns-2
-unfolding triggerTest
+unfolding trigger_test
 returns-2 c =
     let two = c.before.before.before in
     let one = two.before.before.before in
@@ -83,13 +83,13 @@ returns-2 c =
     )
 
 returns-3 : tie.Need-returns-3
-unfolding triggerTest
+unfolding trigger_test
 returns-3 c =
     let one = c.before.before.before in
     rw (← one.before.section-fits.ensures, one.if1.true, ← c.before.section-fits2.ensures, c.if2.false)
 
 returns-4 : tie.Need-returns-4
-unfolding triggerTest
+unfolding trigger_test
 returns-4 c = rw (← c.before.section-fits.ensures, c.if1.false)
 
 pub trigger-fits-spec : {M : Type 1} → statement M

@@ -3,7 +3,7 @@ use Prim.Native.Nat.{◌-◌}
 use borrow.Author.Rules.{rules}
 use native.Mathlib.Omega.{arith}
 use lib.ListN.{length}
-use Rattle.frames.proofs.Fronts.{keeps-long, Sofar, sofar-start, sofar-more, sofar-line, sofar-over}
+use Rattle.frames.proofs.Fronts.{keeps-long, Sofar, sofar_start, sofar_more, sofar_line, sofar_over}
 use Rattle.line_gathering.proofs.gather.Statement.{statement}
 use Rattle.line_gathering.proofs.gather.Tie as tie
 
@@ -17,7 +17,7 @@ within-requires : tie.Need-within-requires invariant-loop decreases-loop
 within-requires c κs = search rules
 
 loop-holds : tie.Need-loop-init invariant-loop decreases-loop
-loop-holds c = let a = c.before.before.before.before.args in sofar-start a.front.now a.used a.block.now a.at _ c.within.ensures
+loop-holds c = let a = c.before.before.before.before.args in sofar_start a.front.now a.used a.block.now a.at _ c.within.ensures
 
 shared-slice-read-byte : tie.Need-shared-slice-read-byte invariant-loop decreases-loop
 shared-slice-read-byte c = search rules
@@ -32,7 +32,7 @@ returns : tie.Need-returns invariant-loop decreases-loop
 returns c =
     let a = c.before.before.before.before.before.before.before.before.args in
     let l = c.before.before.before.loop in
-    sofar-line a.front.now a.used a.block.now a.at l.front l.len l.next l.invariant (omega arith) (omega arith)
+    sofar_line a.front.now a.used a.block.now a.at l.front l.len l.next l.invariant (omega arith) (omega arith)
 
 push-requires : tie.Need-push-requires invariant-loop decreases-loop
 push-requires c κs = search rules
@@ -45,7 +45,7 @@ loop-again c =
     let a = c.before.before.before.before.before.before.before.before.before.before.before.before.args in
     let l = c.before.before.before.before.before.before.before.loop in
     let p = c.before.before.push in
-    sofar-more a.front.now a.used a.block.now a.at l.front l.len l.next l.invariant (omega arith) (λ e. omega arith)
+    sofar_more a.front.now a.used a.block.now a.at l.front l.len l.next l.invariant (omega arith) (λ e. omega arith)
     p.new.0 p.result p.ensures
 
 same-length-2 : tie.Need-same-length-2 invariant-loop decreases-loop
@@ -55,7 +55,7 @@ returns-2 : tie.Need-returns-2 invariant-loop decreases-loop
 returns-2 c =
     let a = c.before.before.before.before.before.before.args in
     let l = c.before.loop in
-    sofar-over a.front.now a.used a.block.now a.at l.front l.len l.next l.invariant (omega arith)
+    sofar_over a.front.now a.used a.block.now a.at l.front l.len l.next l.invariant (omega arith)
 
 pub gather-spec : {M : Type 1} → statement M
 gather-spec =

@@ -1,7 +1,7 @@
 -- There is room for the byte, or the front is full.
 use borrow.Author.Rules.{rules}
 use native.Mathlib.Omega.{arith}
-use Rattle.frames.proofs.Fronts.{keeps-byte, keeps-full}
+use Rattle.frames.proofs.Fronts.{keeps_byte, keeps-full}
 use Rattle.line_gathering.proofs.push.Statement.{statement}
 use Rattle.line_gathering.proofs.push.Tie as tie
 
@@ -15,7 +15,7 @@ same_length : tie.Need-same-length
 same_length c = search rules
 
 returns : tie.Need-returns
-returns c = let a = c.before.args in keeps-byte a.front.now a.used a.byte (omega arith)
+returns c = let a = c.before.args in keeps_byte a.front.now a.used a.byte (omega arith)
 
 returns-2 : tie.Need-returns-2
 returns-2 c = let a = c.before.args in keeps-full a.front.now a.used (omega arith) _

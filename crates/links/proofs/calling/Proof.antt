@@ -2,8 +2,8 @@
 use native.Mathlib.Omega.{arith}
 use native.Mathlib.Omega.{arith}
 use mathlib.Core.Path.{◌∙◌}
-use Rattle.bits.specs.Word.{setBits}
-use Rattle.links.proofs.CallerTables.{callers-linked}
+use Rattle.bits.specs.Word.{set_bits}
+use Rattle.links.proofs.CallerTables.{callers_linked}
 use borrow.Author.Rules.{rules}
 use Rattle.links.proofs.calling.Statement.{statement}
 use Rattle.links.proofs.calling.Tie as tie
@@ -29,7 +29,7 @@ linked-requires c κs = omega (arith, (c.before.before.before.before.before.requ
 returns-3 : tie.Need-returns-3
 returns-3 c =
     let s = c.before.before.before.before.before.before in
-    c.linked.ensures ∙ callers-linked setBits s.args.links.now s.args.callers.now (s.requires.1 c.before.before.before.if1.false) s.args.word
+    c.linked.ensures ∙ callers_linked set_bits s.args.links.now s.args.callers.now (s.requires.1 c.before.before.before.if1.false) s.args.word
 
 pub calling-spec : {M : Type 1} → statement M
 calling-spec =

@@ -1,6 +1,6 @@
 -- `index_callers` meets its contract: before state u the states below it are in the words of their targets.
 use Prim.Native.Nat.{◌-◌}
-use Rattle.bits.specs.Word.{setBits}
+use Rattle.bits.specs.Word.{set_bits}
 use Rattle.links.proofs.CallerTables.{Called, called-start, called_more, called-end}
 use borrow.Author.Rules.{rules}
 use lib.ListN.{length}
@@ -9,13 +9,13 @@ use Rattle.links.proofs.index_callers.Statement.{statement}
 use Rattle.links.proofs.index_callers.Tie as tie
 
 abbrev invariant-loop : tie.invariant-loop
-invariant-loop links callers₀ u₀ callers u = Called setBits links u callers
+invariant-loop links callers₀ u₀ callers u = Called set_bits links u callers
 
 abbrev decreases-loop : tie.decreases-loop
 decreases-loop links callers₀ u₀ callers u = length links - u
 
 loop-holds : tie.Need-loop-init invariant-loop decreases-loop
-loop-holds c = let s = c.before.before in called-start setBits s.args.links.now s.requires.1 s.requires.2
+loop-holds c = let s = c.before.before in called-start set_bits s.args.links.now s.requires.1 s.requires.2
 
 mul-call-for : tie.Need-overflow-mul-call-for invariant-loop decreases-loop
 mul-call-for c = search rules
@@ -39,13 +39,13 @@ loop-again : tie.Need-loop-preserved invariant-loop decreases-loop
 loop-again c =
     let h = c.before.before.before.before.before.before in
     let call = c.before.before.call-for in
-    called_more setBits h.before.before.before.args.links.now h.loop.invariant (omega arith) call.auto.0 call.ensures
+    called_more set_bits h.before.before.before.args.links.now h.loop.invariant (omega arith) call.auto.0 call.ensures
 
 same_length : tie.Need-same-length invariant-loop decreases-loop
 same_length c = search rules
 
 returns : tie.Need-returns invariant-loop decreases-loop
-returns c = let l = c.before.loop in called-end setBits c.before.before.before.before.args.links.now l.invariant (omega (arith, l.invariant.few))
+returns c = let l = c.before.loop in called-end set_bits c.before.before.before.before.args.links.now l.invariant (omega (arith, l.invariant.few))
 
 pub index-callers-spec : {M : Type 1} → statement M
 index-callers-spec =

@@ -1,8 +1,8 @@
 -- `linked` meets its contract: `all` has the links of the states that were taken out of `rest`.
 use Rattle.bits.proofs.Words.{and-members}
-use Rattle.bits.specs.Word.{members, setBits}
+use Rattle.bits.specs.Word.{members, set_bits}
 use Rattle.links.proofs.LinkSets.{Linking, linking-start, linking-next, linking-done}
-use Rattle.simulation.proofs.Loops.{without-falls}
+use Rattle.simulation.proofs.Loops.{without_falls}
 use Rattle.simulation.specs.Sets.{Set, count, without}
 use borrow.Author.Rules.{rules}
 use mathlib.Core.Bool.{◌&&◌}
@@ -14,7 +14,7 @@ abbrev invariant-loop : tie.invariant-loop
 invariant-loop links word all₀ rest₀ all rest = Linking links word all rest
 
 abbrev decreases-loop : tie.decreases-loop
-decreases-loop links word all₀ rest₀ all rest = count setBits (members rest)
+decreases-loop links word all₀ rest₀ all rest = count set_bits (members rest)
 
 -- the lowest state of the rest is taken out
 gone : (c : tie.After-without-lowest invariant-loop decreases-loop) → members c.without-lowest.result ≡ without (members c.before.before.before.before.loop.rest) c.before.before.lowest.result
@@ -48,7 +48,7 @@ without-lowest-requires : tie.Need-without-lowest-requires invariant-loop decrea
 without-lowest-requires c κs = search rules
 
 loop-less : tie.Need-loop-smaller invariant-loop decreases-loop
-loop-less c = rw (gone c) (without-falls setBits (members c.before.before.before.before.loop.rest) c.before.before.lowest.result c.before.before.lowest.ensures.0 c.before.before.lowest.ensures.1)
+loop-less c = rw (gone c) (without_falls set_bits (members c.before.before.before.before.loop.rest) c.before.before.lowest.result c.before.before.lowest.ensures.0 c.before.before.lowest.ensures.1)
 
 loop-again : tie.Need-loop-preserved invariant-loop decreases-loop
 loop-again c =

@@ -1,7 +1,7 @@
 -- `linking` meets its contract: before state u the states below it are those with a link to a state of the word.
 use Prim.Native.Nat.{◌-◌, ◌≤◌}
-use Rattle.bits.specs.Word.{members, setBits}
-use Rattle.links.proofs.LinkSets.{linkedTo, linked-none, linked-more, linked-pass}
+use Rattle.bits.specs.Word.{members, set_bits}
+use Rattle.links.proofs.LinkSets.{linked_to, linked-none, linked-more, linked_pass}
 use borrow.Author.Rules.{rules}
 use lib.ListN.{length}
 use mathlib.Core.Logic.{⊎_elim}
@@ -11,13 +11,13 @@ use Rattle.links.proofs.linking.Statement.{statement}
 use Rattle.links.proofs.linking.Tie as tie
 
 abbrev invariant-loop : tie.invariant-loop
-invariant-loop links word all₀ u₀ all u = (u ≤ length links) × (members all ≡ linkedTo setBits links word u)
+invariant-loop links word all₀ u₀ all u = (u ≤ length links) × (members all ≡ linked_to set_bits links word u)
 
 abbrev decreases-loop : tie.decreases-loop
 decreases-loop links word all₀ u₀ all u = length links - u
 
 loop-holds : tie.Need-loop-init invariant-loop decreases-loop
-loop-holds c = let a = c.before.args in (search rules, linked-none setBits a.links.now a.word)
+loop-holds c = let a = c.before.args in (search rules, linked-none set_bits a.links.now a.word)
 
 mul-meet : tie.Need-overflow-mul-meet invariant-loop decreases-loop
 mul-meet c = search rules
@@ -47,8 +47,8 @@ loop-again c =
     let meet = c.before.meet in (
       search rules,
       ⊎_elim
-          (λ w. ap members w.2 ∙ linked-more setBits a.links.now a.word h.loop.u h.loop.all h.loop.invariant.1 w.1.result (sym meet.ensures ∙ w.0.taken) w.1.ensures)
-          (λ w. ap members w.1 ∙ linked-pass setBits a.links.now a.word h.loop.u h.loop.all h.loop.invariant.1 (sym meet.ensures ∙ w.0.left))
+          (λ w. ap members w.2 ∙ linked-more set_bits a.links.now a.word h.loop.u h.loop.all h.loop.invariant.1 w.1.result (sym meet.ensures ∙ w.0.taken) w.1.ensures)
+          (λ w. ap members w.1 ∙ linked_pass set_bits a.links.now a.word h.loop.u h.loop.all h.loop.invariant.1 (sym meet.ensures ∙ w.0.left))
           c.if1.branch,
     )
 
@@ -56,7 +56,7 @@ returns : tie.Need-returns invariant-loop decreases-loop
 returns c =
     let h = c.before in
     let a = h.before.before.args in
-    h.loop.invariant.1 ∙ ap (linkedTo setBits a.links.now a.word) (omega arith)
+    h.loop.invariant.1 ∙ ap (linked_to set_bits a.links.now a.word) (omega arith)
 
 pub linking-spec : {M : Type 1} → statement M
 linking-spec =

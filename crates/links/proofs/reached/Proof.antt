@@ -2,8 +2,8 @@
 use borrow.Author.Rules.{rules}
 use mathlib.Core.Path.{◌≡◌}
 use Rattle.simulation.specs.Sets.{union, without, count}
-use Rattle.bits.specs.Word.{members, setBits}
-use Rattle.links.proofs.Reaching.{Reaching, reaching-start, reaching-next, reaching-less, reaching-done}
+use Rattle.bits.specs.Word.{members, set_bits}
+use Rattle.links.proofs.Reaching.{Reaching, reaching_start, reaching_next, reaching_less, reaching_done}
 use Rattle.links.proofs.reached.Statement.{statement}
 use Rattle.links.proofs.reached.Tie as tie
 
@@ -11,7 +11,7 @@ abbrev invariant-loop : tie.invariant-loop
 invariant-loop links all left₀ rest₀ left rest = Reaching links left rest
 
 abbrev decreases-loop : tie.decreases-loop
-decreases-loop links all left₀ rest₀ left rest = count setBits (union (members left) (members rest))
+decreases-loop links all left₀ rest₀ left rest = count set_bits (union (members left) (members rest))
 
 cast-below : tie.Need-overflow-cast-below invariant-loop decreases-loop
 cast-below c = search rules
@@ -25,7 +25,7 @@ difference-requires c κs = search rules
 loop-holds : tie.Need-loop-init invariant-loop decreases-loop
 loop-holds c =
     let s = c.before.before.before in
-    reaching-start s.args.links.now c.before.below.result c.difference.result s.requires.0 c.before.below.ensures.1 c.difference.ensures
+    reaching_start s.args.links.now c.before.below.result c.difference.result s.requires.0 c.before.below.ensures.1 c.difference.ensures
 
 lowest-requires : tie.Need-lowest-requires invariant-loop decreases-loop
 lowest-requires c κs = search rules
@@ -54,14 +54,14 @@ loop-less c =
     let h = c.before.before.before.before.before in
     let a = h.before.before.before.before.args in
     let low = c.before.before.before.lowest in
-    reaching-less a.links.now h.loop.left h.loop.rest h.loop.invariant low.result c.without-lowest.result c.before.difference2.result low.ensures.1 (gone c) c.before.difference2.ensures low.ensures.0
+    reaching_less a.links.now h.loop.left h.loop.rest h.loop.invariant low.result c.without-lowest.result c.before.difference2.result low.ensures.1 (gone c) c.before.difference2.ensures low.ensures.0
 
 loop-again : tie.Need-loop-preserved invariant-loop decreases-loop
 loop-again c =
     let h = c.before.before.before.before.before in
     let a = h.before.before.before.before.args in
     let low = c.before.before.before.lowest in
-    reaching-next a.links.now h.loop.left h.loop.rest h.loop.invariant low.result c.without-lowest.result c.before.difference2.result low.ensures.1 (gone c) c.before.difference2.ensures
+    reaching_next a.links.now h.loop.left h.loop.rest h.loop.invariant low.result c.without-lowest.result c.before.difference2.result low.ensures.1 (gone c) c.before.difference2.ensures
 
 difference-requires-3 : tie.Need-difference-requires-3 invariant-loop decreases-loop
 difference-requires-3 c κs = search rules
@@ -71,7 +71,7 @@ returns c =
     let h = c.before.before in
     let b = h.before.before in
     let a = b.before.before.args in
-    reaching-done a.links.now h.loop.left h.loop.rest h.loop.invariant c.before.loop-test.false b.below.result c.difference3.result b.below.ensures.1 c.difference3.ensures
+    reaching_done a.links.now h.loop.left h.loop.rest h.loop.invariant c.before.loop-test.false b.below.result c.difference3.result b.below.ensures.1 c.difference3.ensures
 
 pub reached-spec : {M : Type 1} → statement M
 reached-spec =

@@ -4,18 +4,18 @@ use mathlib.Core.Logic.{⊎_elim}
 use mathlib.Core.Bool.{◌&&◌}
 use mathlib.Core.Path.{◌≡◌, sym, ap, subst, ◌∙◌}
 use Rattle.simulation.specs.Sets.{Set, count, without}
-use Rattle.simulation.proofs.Loops.{without-falls}
-use Rattle.bits.specs.Word.{members, setBits}
+use Rattle.simulation.proofs.Loops.{without_falls}
+use Rattle.bits.specs.Word.{members, set_bits}
 use Rattle.bits.proofs.Words.{and-members}
-use Rattle.links.proofs.LinkSets.{Thinned, thinned-start, thinned-out, thinned-pass, thinned-done}
+use Rattle.links.proofs.LinkSets.{Thinned, thinned_start, thinned_out, thinned_pass, thinned_done}
 use Rattle.links.proofs.unlinked.Statement.{statement}
 use Rattle.links.proofs.unlinked.Tie as tie
 
 abbrev invariant-loop : tie.invariant-loop
-invariant-loop links word others left₀ rest₀ left rest = Thinned setBits links word others left rest
+invariant-loop links word others left₀ rest₀ left rest = Thinned set_bits links word others left rest
 
 abbrev decreases-loop : tie.decreases-loop
-decreases-loop links word others left₀ rest₀ left rest = count setBits (members rest)
+decreases-loop links word others left₀ rest₀ left rest = count set_bits (members rest)
 
 -- the lowest state of the rest is taken out
 gone : (c : tie.After-without-lowest invariant-loop decreases-loop) → members c.without-lowest.result ≡ without (members c.before.before.before.before.before.before.loop.rest) c.before.before.before.before.lowest.result
@@ -30,7 +30,7 @@ below-requires c κs = search rules
 loop-holds : tie.Need-loop-init invariant-loop decreases-loop
 loop-holds c =
     let a = c.before.before.args in
-    thinned-start setBits a.links.now a.word a.others _
+    thinned_start set_bits a.links.now a.word a.others _
     (λ u. and-members a.word c.below.result u ∙ ap (λ (X : Set). members a.word u && X u) c.below.ensures.1)
 
 lowest-requires : tie.Need-lowest-requires invariant-loop decreases-loop
@@ -55,7 +55,7 @@ without-lowest-requires : tie.Need-without-lowest-requires invariant-loop decrea
 without-lowest-requires c κs = search rules
 
 loop-less : tie.Need-loop-smaller invariant-loop decreases-loop
-loop-less c = rw (gone c) (without-falls setBits (members c.before.before.before.before.before.before.loop.rest) c.before.before.before.before.lowest.result c.before.before.before.before.lowest.ensures.0 c.before.before.before.before.lowest.ensures.1)
+loop-less c = rw (gone c) (without_falls set_bits (members c.before.before.before.before.before.before.loop.rest) c.before.before.before.before.lowest.result c.before.before.before.before.lowest.ensures.0 c.before.before.before.before.lowest.ensures.1)
 
 loop-again : tie.Need-loop-preserved invariant-loop decreases-loop
 loop-again c =
@@ -64,11 +64,11 @@ loop-again c =
     let low = c.before.before.before.before.lowest in
     let met = c.before.before.meet in
     ⊎_elim
-    (λ w. subst (λ (x : _). Thinned setBits a.links.now a.word a.others x c.without-lowest.result) (sym w.2)
-    (thinned-out setBits a.links.now a.word a.others h.loop.left h.loop.rest h.loop.invariant low.result c.without-lowest.result low.ensures.1 (gone c)
+    (λ w. subst (λ (x : _). Thinned set_bits a.links.now a.word a.others x c.without-lowest.result) (sym w.2)
+    (thinned_out set_bits a.links.now a.word a.others h.loop.left h.loop.rest h.loop.invariant low.result c.without-lowest.result low.ensures.1 (gone c)
     (sym met.ensures ∙ w.0.taken) w.1.result w.1.ensures))
-    (λ w. subst (λ (x : _). Thinned setBits a.links.now a.word a.others x c.without-lowest.result) (sym w.1)
-    (thinned-pass setBits a.links.now a.word a.others h.loop.left h.loop.rest h.loop.invariant low.result c.without-lowest.result low.ensures.1 (gone c)
+    (λ w. subst (λ (x : _). Thinned set_bits a.links.now a.word a.others x c.without-lowest.result) (sym w.1)
+    (thinned_pass set_bits a.links.now a.word a.others h.loop.left h.loop.rest h.loop.invariant low.result c.without-lowest.result low.ensures.1 (gone c)
     (sym met.ensures ∙ w.0.left)))
     c.before.if1.branch
 
@@ -76,7 +76,7 @@ returns : tie.Need-returns invariant-loop decreases-loop
 returns c =
     let h = c.before in
     let a = c.before.before.before.before.args in
-    thinned-done setBits a.links.now a.word a.others h.loop.left h.loop.rest h.loop.invariant c.loop-test.false
+    thinned_done set_bits a.links.now a.word a.others h.loop.left h.loop.rest h.loop.invariant c.loop-test.false
 
 pub unlinked-spec : {M : Type 1} → statement M
 unlinked-spec =

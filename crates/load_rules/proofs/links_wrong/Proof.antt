@@ -2,8 +2,8 @@
 use borrow.Author.Rules.{rules}
 use mathlib.Core.Path.{ap, ◌∙◌}
 use mathlib.Core.Bool.{not}
-use Rattle.bits.specs.Word.{within, setBits}
-use Rattle.bits.proofs.Gathers.{gathered-below}
+use Rattle.bits.specs.Word.{within, set_bits}
+use Rattle.bits.proofs.Gathers.{gathered_below}
 use Rattle.session.specs.Layout.{below}
 use Rattle.load_rules.proofs.links_wrong.Statement.{statement}
 use Rattle.load_rules.proofs.links_wrong.Tie as tie
@@ -27,8 +27,8 @@ returns c =
     let all = c.before.before.gathered in
     ap not
     (c.subset.ensures
-    ∙ ap (within setBits all.result) c.before.below.ensures.0
-    ∙ gathered-below all.result s.args.links.now all.ensures setBits s.args.states (search rules))
+    ∙ ap (within set_bits all.result) c.before.below.ensures.0
+    ∙ gathered_below all.result s.args.links.now all.ensures set_bits s.args.states (search rules))
 
 pub links-wrong-spec : {M : Type 1} → statement M
 links-wrong-spec =

@@ -9,7 +9,7 @@ use mathlib.Core.Bool.{not}
 use mathlib.Core.List.{List}
 use lib.ListN.{length, get_or}
 use Rattle.simulation.specs.Sets.{Set}
-use Rattle.simulation.proofs.Folds.{Folded, fold_start, fold-pass, fold-fault, fold_end}
+use Rattle.simulation.proofs.Folds.{Folded, fold_start, fold_pass, fold_fault, fold_end}
 use Rattle.promises.specs.Rules.{precedes}
 use Rattle.load_rules.proofs.order_wrong.Statement.{statement}
 use Rattle.load_rules.proofs.order_wrong.Tie as tie
@@ -82,8 +82,8 @@ loop-again c =
       omega arith,
       rw next
           (⊎_elim
-          (λ w. rw w.1 (fold-fault P n j (omega arith) (sym test ∙ not-true t.result w.0.taken)))
-          (λ w. rw w.1 (fold-pass P n l.faults j l.invariant.1 (omega arith) (sym test ∙ not-false t.result w.0.left)))
+          (λ w. rw w.1 (fold_fault P n j (omega arith) (sym test ∙ not-true t.result w.0.taken)))
+          (λ w. rw w.1 (fold_pass P n l.faults j l.invariant.1 (omega arith) (sym test ∙ not-false t.result w.0.left)))
           c.if1.branch),
     )
 

@@ -6,13 +6,13 @@ use mathlib.Core.Path.{◌≡◌, sym, ap, ◌∙◌}
 use mathlib.Core.Logic.{⊎_elim}
 use mathlib.Core.Bool.{not, ◌||◌}
 use lib.Dec.{ltb, eqb}
-use Rattle.simulation.proofs.Sets.{or-false-r}
-use Rattle.session.specs.Limits.{maxStates}
+use Rattle.simulation.proofs.Sets.{or_false_r}
+use Rattle.session.specs.Limits.{max_states}
 use Rattle.load_rules.proofs.states_wrong.Statement.{statement}
 use Rattle.load_rules.proofs.states_wrong.Tie as tie
 
 -- the first test, of the number of states
-number : (c : tie.Joined1) → let n = c.before.args.masks in c.if1.if2 ≡ (eqb n 0 || ltb maxStates n)
+number : (c : tie.Joined1) → let n = c.before.args.masks in c.if1.if2 ≡ (eqb n 0 || ltb max_states n)
 number c =
     let n = c.before.args.masks in
     ⊎_elim
@@ -29,10 +29,10 @@ lists c =
     (λ w. w.1 ∙ rw (eq-eqb a.values a.masks w.0.left))
     c.if3.branch
 
-few : (c : tie.Else4) → c.before.before.before.before.args.masks ≤ maxStates
+few : (c : tie.Else4) → c.before.before.before.before.args.masks ≤ max_states
 few c =
     let n = c.before.before.before.before.args.masks in
-    ltb-false maxStates n (or-false-r (eqb n 0) (ltb maxStates n) (sym (number c.before.before.before) ∙ c.before.before.if2.false))
+    ltb-false max_states n (or_false_r (eqb n 0) (ltb max_states n) (sym (number c.before.before.before) ∙ c.before.before.if2.false))
 
 cast-inside : tie.Need-overflow-cast-inside
 cast-inside c = omega (arith, few c)

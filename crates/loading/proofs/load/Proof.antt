@@ -5,16 +5,16 @@ use Prim.Native.Nat.{◌^◌}
 use mathlib.Core.Path.{◌≡◌, refl, sym, ◌∙◌, ap}
 use mathlib.Core.Bool.{true}
 use lib.ListN.{length, replicate}
-use Rattle.session.specs.Layout.{below, inLayout}
-use Rattle.session.proofs.Tables.{below-make}
+use Rattle.session.specs.Layout.{below, in_layout}
+use Rattle.session.proofs.Tables.{below_make}
 use Rattle.pair_tables.proofs.Zeros.{zeros}
 use Rattle.promises.specs.Answers.{refused}
-use Rattle.promises.specs.Rules.{Given, given, loadRules, verdict}
-use Rattle.promises.proofs.Loads.{load-room, load-elsewhere}
+use Rattle.promises.specs.Rules.{Given, given, load_rules, verdict}
+use Rattle.promises.proofs.Loads.{load-room, load_elsewhere}
 use Rattle.loading.proofs.Finished.{load-layout, load_inside, load-marked, load-written}
 use Rattle.loading.proofs.load.Statement.{statement}
 use Rattle.loading.proofs.load.Tie as tie
-use Rattle.session.specs.Limits.{maxChanges, maxNodes, wordBits}
+use Rattle.session.specs.Limits.{max_changes, max_nodes, word_bits}
 
 abbrev loaded : tie.Start → Given
 loaded s = given s.args.masks.now s.args.values.now s.args.links.now s.args.inverted s.args.samples.now s.args.starts.now s.args.ends.now
@@ -23,17 +23,17 @@ loaded s = given s.args.masks.now s.args.values.now s.args.links.now s.args.inve
 abbrev known : tie.After-load-rule → tie.Start
 known a = a.before.before.before.before.before.before.before.before
 
-masks-fit : (a : tie.After-load-rule) → below (2 ^ wordBits) (known a).args.masks.now ≡ true
-masks-fit a = below-make (2 ^ wordBits) (known a).args.masks.now (λ i l. omega (arith, a.before.before.before.before.before.before.shared-slice-known.given i))
+masks_fit : (a : tie.After-load-rule) → below (2 ^ word_bits) (known a).args.masks.now ≡ true
+masks_fit a = below_make (2 ^ word_bits) (known a).args.masks.now (λ i l. omega (arith, a.before.before.before.before.before.before.shared-slice-known.given i))
 
-values-fit : (a : tie.After-load-rule) → below (2 ^ wordBits) (known a).args.values.now ≡ true
-values-fit a = below-make (2 ^ wordBits) (known a).args.values.now (λ i l. omega (arith, a.before.before.before.before.before.shared-slice-known2.given i))
+values_fit : (a : tie.After-load-rule) → below (2 ^ word_bits) (known a).args.values.now ≡ true
+values_fit a = below_make (2 ^ word_bits) (known a).args.values.now (λ i l. omega (arith, a.before.before.before.before.before.shared-slice-known2.given i))
 
-samples-fit : (a : tie.After-load-rule) → below (2 ^ wordBits) (known a).args.samples.now ≡ true
-samples-fit a = below-make (2 ^ wordBits) (known a).args.samples.now (λ i l. omega (arith, a.before.before.before.shared-slice-known4.given i))
+samples_fit : (a : tie.After-load-rule) → below (2 ^ word_bits) (known a).args.samples.now ≡ true
+samples_fit a = below_make (2 ^ word_bits) (known a).args.samples.now (λ i l. omega (arith, a.before.before.before.shared-slice-known4.given i))
 
 -- no rule is broken
-passed : (e : tie.Else1) → verdict (loadRules (length (known e.before).args.session.now) (length (known e.before).args.changes.now) (loaded (known e.before))) ≡ 0
+passed : (e : tie.Else1) → verdict (load_rules (length (known e.before).args.session.now) (length (known e.before).args.changes.now) (loaded (known e.before))) ≡ 0
 passed e = sym e.before.load_rule.ensures ∙ e.if1.false
 
 load-rule-requires : tie.Need-load-rule-requires
@@ -43,7 +43,7 @@ returns : tie.Need-returns
 returns c =
     let a = c.before in
     record {
-      words = (masks-fit a, values-fit a, samples-fit a);
+      words = (masks_fit a, values_fit a, samples_fit a);
       refuses = λ bad. record { answer = ap refused a.load_rule.ensures; session = refl; room = refl };
       accepts = λ ok. absurd (c.if1.true (a.load_rule.ensures ∙ ok));
     }
@@ -51,7 +51,7 @@ returns c =
 write-sections-requires : tie.Need-write-sections-requires
 write-sections-requires c κs =
     let s = known c.before.before in
-    load-elsewhere (length s.args.session.now) (length s.args.changes.now) (loaded s) (passed c.before) maxChanges (omega arith)
+    load_elsewhere (length s.args.session.now) (length s.args.changes.now) (loaded s) (passed c.before) max_changes (omega arith)
 
 slice-aggregate-solve : tie.Need-slice-aggregate-solve
 slice-aggregate-solve c = search rules
@@ -60,15 +60,15 @@ slice-aggregate-solve c = search rules
 abbrev rules : tie.After-write-sections → tie.Else1
 rules w = w.before.before
 
-layout : (w : tie.After-write-sections) → inLayout w.write-sections.new.0 ≡ true
+layout : (w : tie.After-write-sections) → in_layout w.write-sections.new.0 ≡ true
 layout w =
     let a = (rules w).before in
     let s = known a in
-    load-layout (loaded s) s.args.session.now (length s.args.changes.now) (passed (rules w)) (masks-fit a) (values-fit a) (samples-fit a)
+    load-layout (loaded s) s.args.session.now (length s.args.changes.now) (passed (rules w)) (masks_fit a) (values_fit a) (samples_fit a)
     w.write-sections.new.0 w.write-sections.ensures
 
 solve-requires : tie.Need-solve-requires
-solve-requires c κs = (layout c.before.before.before.before, refl, zeros maxNodes)
+solve-requires c κs = (layout c.before.before.before.before, refl, zeros max_nodes)
 
 slice-aggregate-store-marks : tie.Need-slice-aggregate-store-marks
 slice-aggregate-store-marks c = search rules
@@ -85,7 +85,7 @@ store-marks-requires c κs =
     let s = known a in (
       layout w,
       v.solve.ensures.long,
-      load_inside (loaded s) s.args.session.now (length s.args.changes.now) (passed (rules w)) (masks-fit a) (values-fit a) (samples-fit a)
+      load_inside (loaded s) s.args.session.now (length s.args.changes.now) (passed (rules w)) (masks_fit a) (values_fit a) (samples_fit a)
           w.write-sections.last.0 w.write-sections.ensures v.solve.result v.solve.new.1.0 v.solve.ensures,
     )
 
@@ -99,7 +99,7 @@ report-requires c κs =
     let w = written v in
     let a = (rules w).before in
     let s = known a in (
-      load-marked (loaded s) s.args.session.now (length s.args.changes.now) (passed (rules w)) (masks-fit a) (values-fit a) (samples-fit a)
+      load-marked (loaded s) s.args.session.now (length s.args.changes.now) (passed (rules w)) (masks_fit a) (values_fit a) (samples_fit a)
           w.write-sections.last.0 w.write-sections.ensures v.solve.result v.solve.new.1.0 v.solve.ensures
           m.store-marks.new.0 m.store-marks.ensures,
       refl,
@@ -120,12 +120,12 @@ returns-2 c =
     let a = (rules w).before in
     let s = known a in
     record {
-      words = (masks-fit a, values-fit a, samples-fit a);
+      words = (masks_fit a, values_fit a, samples_fit a);
       refuses = λ bad. absurd (bad (passed (rules w)));
       accepts = λ ok.
-          load-written (loaded s) s.args.session.now (length s.args.changes.now) (passed (rules w)) (masks-fit a) (values-fit a) (samples-fit a)
+          load-written (loaded s) s.args.session.now (length s.args.changes.now) (passed (rules w)) (masks_fit a) (values_fit a) (samples_fit a)
           w.write-sections.last.0 w.write-sections.ensures v.solve.result v.solve.new.1.0 v.solve.ensures
-          m.store-marks.new.0 m.store-marks.ensures (replicate maxNodes 0) (zeros maxNodes) _ _ _ c.before.report.ensures;
+          m.store-marks.new.0 m.store-marks.ensures (replicate max_nodes 0) (zeros max_nodes) _ _ _ c.before.report.ensures;
     }
 
 pub load_spec : {M : Type 1} → statement M

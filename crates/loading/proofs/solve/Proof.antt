@@ -2,11 +2,11 @@
 use borrow.Author.Rules.{rules}
 use mathlib.Core.Path.{refl}
 use native.Mathlib.Omega.{arith}
-use Rattle.session.specs.Limits.{maxNodes}
-use Rattle.session.proofs.Decoded.{Bounded, layout-limits}
+use Rattle.session.specs.Limits.{max_nodes}
+use Rattle.session.proofs.Decoded.{Bounded, layout_limits}
 use Rattle.pair_tables.proofs.Zeros.{zeros}
-use Rattle.refinement.proofs.Systems.{held-sound}
-use Rattle.loading.proofs.Solving.{all-wait, held-inside, held-solved}
+use Rattle.refinement.proofs.Systems.{held_sound}
+use Rattle.loading.proofs.Solving.{all_wait, held-inside, held_solved}
 use Rattle.loading.proofs.solve.Statement.{statement}
 use Rattle.loading.proofs.solve.Tie as tie
 
@@ -15,7 +15,7 @@ abbrev start : tie.After-shared-slice-known2 → tie.Start
 start c = c.before.before.before
 
 abbrev bounded : (c : tie.After-shared-slice-known2) → Bounded (start c).args.session.now
-bounded c = layout-limits (start c).args.session.now (start c).requires.0
+bounded c = layout_limits (start c).args.session.now (start c).requires.0
 
 shared-slice-read-nodes : tie.Need-shared-slice-read-nodes
 shared-slice-read-nodes c = omega (arith, bounded c)
@@ -49,7 +49,7 @@ refine-indexed-requires c κs =
     let a = p.admitted-pairs.ensures in (
       (refl, a.long, refl),
       (
-        held-sound xs s.pre.0 _ _ c.before.before.before.before.links-of.ensures c.before.before.before.edges-of.ensures,
+        held_sound xs s.pre.0 _ _ c.before.before.before.before.links-of.ensures c.before.before.before.edges-of.ensures,
         held-inside xs s.pre.0 _ _ a,
       ),
     )
@@ -62,8 +62,8 @@ returns c =
     let e = c.before.before.before.before.before.before.before in
     let p = e.before.before.before.before in
     let s = start p.before.before.before in
-    held-solved s.args.session.now s.pre.0 _ _ p.admitted-pairs.ensures _ _ _ _ _ e.before.links-of.ensures e.edges-of.ensures
-    (zeros maxNodes) all-wait c.before.before.before.refine-indexed.ensures
+    held_solved s.args.session.now s.pre.0 _ _ p.admitted-pairs.ensures _ _ _ _ _ e.before.links-of.ensures e.edges-of.ensures
+    (zeros max_nodes) all_wait c.before.before.before.refine-indexed.ensures
 
 pub solve-spec : {M : Type 1} → statement M
 solve-spec =

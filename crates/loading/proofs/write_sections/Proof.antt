@@ -6,10 +6,10 @@ use mathlib.Core.Path.{◌≡◌, ◌∙◌}
 use mathlib.Core.List.{List}
 use lib.ListN.{length, set, length-set}
 use borrow.Rule.Slice.PartMut.{put_mid, same_len_mid}
-use Rattle.session.specs.Limits.{invertedAt, masks_at, valuesAt, linksAt, samplesAt, edges_at, marksAt, fixedSize, maxChanges, maxEdges, maxNodes, maxStates}
+use Rattle.session.specs.Limits.{inverted_at, masks_at, values_at, links_at, samples_at, edges_at, marks_at, fixed_size, max_changes, max_edges, max_nodes, max_states}
 use Rattle.promises.specs.Rules.{Given, given}
 use Rattle.promises.proofs.Loads.{load-counts, load-edges}
-use Rattle.loading.proofs.Sections.{sections-written}
+use Rattle.loading.proofs.Sections.{sections_written}
 use Rattle.loading.proofs.write_sections.Statement.{statement}
 use Rattle.loading.proofs.write_sections.Tie as tie
 
@@ -17,10 +17,10 @@ abbrev loaded : tie.Start → Given
 loaded s = given s.args.masks.now s.args.values.now s.args.links.now s.args.inverted s.args.samples.now s.args.starts.now s.args.ends.now
 
 -- the memory is long enough, and the lists are short
-bounds : (s : tie.Start) → (fixedSize ≤ length s.args.session.now) × (length s.args.masks.now ≤ maxStates)
+bounds : (s : tie.Start) → (fixed_size ≤ length s.args.session.now) × (length s.args.masks.now ≤ max_states)
     × (length s.args.values.now ≡ length s.args.masks.now) × (length s.args.links.now ≡ length s.args.masks.now)
-    × (length s.args.samples.now ≤ maxNodes) × (length s.args.starts.now ≤ maxEdges) × (length s.args.ends.now ≡ length s.args.starts.now)
-bounds s = load-counts (length s.args.session.now) maxChanges (loaded s) s.requires
+    × (length s.args.samples.now ≤ max_nodes) × (length s.args.starts.now ≤ max_edges) × (length s.args.ends.now ≡ length s.args.starts.now)
+bounds s = load-counts (length s.args.session.now) max_changes (loaded s) s.requires
 
 -- the entry, seen from after each section
 abbrev start1 : tie.After-fill-halves → tie.Start
@@ -41,41 +41,41 @@ start5 g = start4 g.before.before.before.before
 -- the memory after each section, as long as it was
 abbrev X0 : tie.Start → List ℕ
 X0 s =
-    set (set (set (set s.args.session.now 0 (length s.args.masks.now)) 1 (length s.args.samples.now)) 2 (length s.args.starts.now)) invertedAt
+    set (set (set (set s.args.session.now 0 (length s.args.masks.now)) 1 (length s.args.samples.now)) 2 (length s.args.starts.now)) inverted_at
     s.args.inverted
 
 long0 : (s : tie.Start) → length (X0 s) ≡ length s.args.session.now
 long0 s = simp length-set
 
 abbrev X1 : tie.After-fill-halves → List ℕ
-X1 a = put_mid masks_at maxStates (X0 (start1 a)) a.fill-halves.new.0
+X1 a = put_mid masks_at max_states (X0 (start1 a)) a.fill-halves.new.0
 
 long1 : (a : tie.After-fill-halves) → length (X1 a) ≡ length (start1 a).args.session.now
-long1 a = same_len_mid masks_at maxStates (X0 (start1 a)) a.fill-halves.new.0 a.fill-halves.auto.0 ∙ long0 (start1 a)
+long1 a = same_len_mid masks_at max_states (X0 (start1 a)) a.fill-halves.new.0 a.fill-halves.auto.0 ∙ long0 (start1 a)
 
 abbrev X2 : tie.After-fill-halves2 → List ℕ
-X2 b = put_mid valuesAt maxStates (X1 b.before.before.before.before) b.fill-halves2.new.0
+X2 b = put_mid values_at max_states (X1 b.before.before.before.before) b.fill-halves2.new.0
 
 long2 : (b : tie.After-fill-halves2) → length (X2 b) ≡ length (start2 b).args.session.now
-long2 b = same_len_mid valuesAt maxStates (X1 b.before.before.before.before) b.fill-halves2.new.0 b.fill-halves2.auto.0 ∙ long1 b.before.before.before.before
+long2 b = same_len_mid values_at max_states (X1 b.before.before.before.before) b.fill-halves2.new.0 b.fill-halves2.auto.0 ∙ long1 b.before.before.before.before
 
 abbrev X3 : tie.After-fill-words → List ℕ
-X3 d = put_mid linksAt maxStates (X2 d.before.before.before.before) d.fill-words.new.0
+X3 d = put_mid links_at max_states (X2 d.before.before.before.before) d.fill-words.new.0
 
 long3 : (d : tie.After-fill-words) → length (X3 d) ≡ length (start3 d).args.session.now
-long3 d = same_len_mid linksAt maxStates (X2 d.before.before.before.before) d.fill-words.new.0 d.fill-words.auto.0 ∙ long2 d.before.before.before.before
+long3 d = same_len_mid links_at max_states (X2 d.before.before.before.before) d.fill-words.new.0 d.fill-words.auto.0 ∙ long2 d.before.before.before.before
 
 abbrev X4 : tie.After-fill-halves3 → List ℕ
-X4 f = put_mid samplesAt maxNodes (X3 f.before.before.before.before) f.fill-halves3.new.0
+X4 f = put_mid samples_at max_nodes (X3 f.before.before.before.before) f.fill-halves3.new.0
 
 long4 : (f : tie.After-fill-halves3) → length (X4 f) ≡ length (start4 f).args.session.now
-long4 f = same_len_mid samplesAt maxNodes (X3 f.before.before.before.before) f.fill-halves3.new.0 f.fill-halves3.auto.0 ∙ long3 f.before.before.before.before
+long4 f = same_len_mid samples_at max_nodes (X3 f.before.before.before.before) f.fill-halves3.new.0 f.fill-halves3.auto.0 ∙ long3 f.before.before.before.before
 
 abbrev X5 : tie.After-fill-edges → List ℕ
-X5 g = put_mid edges_at maxEdges (X4 g.before.before.before.before) g.fill-edges.last.0
+X5 g = put_mid edges_at max_edges (X4 g.before.before.before.before) g.fill-edges.last.0
 
 long5 : (g : tie.After-fill-edges) → length (X5 g) ≡ length (start5 g).args.session.now
-long5 g = same_len_mid edges_at maxEdges (X4 g.before.before.before.before) g.fill-edges.new.0 g.fill-edges.auto.0 ∙ long4 g.before.before.before.before
+long5 g = same_len_mid edges_at max_edges (X4 g.before.before.before.before) g.fill-edges.new.0 g.fill-edges.auto.0 ∙ long4 g.before.before.before.before
 
 cast-session : tie.Need-overflow-cast-session
 cast-session c = omega (arith, bounds c.before.before.before.before.before.before.before)
@@ -174,7 +174,7 @@ part-fill-edges-end c = let a = c.before.before in omega (arith, long4 a, bounds
 fill-edges-requires : tie.Need-fill-edges-requires
 fill-edges-requires c κs =
     let s = start4 c.before.before.before in
-    (load-edges (length s.args.session.now) maxChanges (loaded s) s.pre, ((bounds s).6, omega (arith, bounds s)))
+    (load-edges (length s.args.session.now) max_changes (loaded s) s.pre, ((bounds s).6, omega (arith, bounds s)))
 
 sub-clear : tie.Need-overflow-sub-clear
 sub-clear c = search rules
@@ -192,7 +192,7 @@ same_length : tie.Need-same-length
 same_length c =
     let z = c.before.before in
     let g = z.before.before.before.before in
-    same_len_mid marksAt maxNodes (X5 g) z.clear.new.0 z.clear.auto.0 ∙ long5 g
+    same_len_mid marks_at max_nodes (X5 g) z.clear.new.0 z.clear.auto.0 ∙ long5 g
 
 returns : tie.Need-returns
 returns c =
@@ -203,7 +203,7 @@ returns c =
     let b = d.before.before.before.before in
     let a = b.before.before.before.before in
     let s = start1 a in
-    sections-written (loaded s) s.args.session.now (bounds s).0
+    sections_written (loaded s) s.args.session.now (bounds s).0
     a.fill-halves.new.0 b.fill-halves2.new.0 d.fill-words.new.0 f.fill-halves3.new.0 g.fill-edges.new.0 z.clear.new.0
     a.fill-halves.ensures b.fill-halves2.ensures d.fill-words.ensures f.fill-halves3.ensures g.fill-edges.ensures z.clear.ensures
 

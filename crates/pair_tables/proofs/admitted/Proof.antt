@@ -5,7 +5,7 @@ use borrow.Author.Rules.{rules}
 use mathlib.Core.Path.{◌≡◌}
 use lib.ListN.{length, get_or}
 use Rattle.bits.specs.Word.{members}
-use Rattle.session.specs.Limits.{maxNodes, wordBits}
+use Rattle.session.specs.Limits.{max_nodes, word_bits}
 use Rattle.session.proofs.Tables.{below-take}
 use Rattle.pair_tables.specs.Tables.{Admits}
 use Rattle.pair_tables.proofs.Admitting.{Filled, admits-few, filled-start, filled_more, filled-end}
@@ -14,7 +14,7 @@ use Rattle.pair_tables.proofs.admitted.Tie as tie
 
 abbrev invariant-loop : tie.invariant-loop
 invariant-loop masks values turned samples table₀ count₀ u₀ table count u =
-    (u ≤ length masks) × (count ≤ u * maxNodes) × Filled masks values turned samples u count table
+    (u ≤ length masks) × (count ≤ u * max_nodes) × Filled masks values turned samples u count table
 
 abbrev decreases-loop : tie.decreases-loop
 decreases-loop masks values turned samples table₀ count₀ u₀ table count u = length masks - u
@@ -50,7 +50,7 @@ admit-requires : tie.Need-admit-requires invariant-loop decreases-loop
 admit-requires c κs =
     let s = c.before.before.before.before.before.before.before.before.before.before in
     let l = c.before.before.before.before.before.loop in
-    (below-take (2 ^ wordBits) s.args.masks.now s.requires.1.0 l.u (search rules), search rules, omega (arith, l.invariant.2.long, s.requires), search rules)
+    (below-take (2 ^ word_bits) s.args.masks.now s.requires.1.0 l.u (search rules), search rules, omega (arith, l.invariant.2.long, s.requires), search rules)
 
 -- what the call leaves, of the state u
 put : (c : tie.After-admit invariant-loop decreases-loop)

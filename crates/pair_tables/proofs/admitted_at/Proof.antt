@@ -8,10 +8,10 @@ use lib.ListN.{length, get_or}
 use Rattle.simulation.specs.Sets.{none, Set}
 use Rattle.bits.specs.Word.{members}
 use Rattle.bits.proofs.Words.{zero-members}
-use Rattle.session.specs.Limits.{wordBits}
+use Rattle.session.specs.Limits.{word_bits}
 use Rattle.session.proofs.Tables.{below-take}
-use Rattle.simulation.proofs.Gains.{gained, gained-none, gained-more, gained-pass}
-use Rattle.pair_tables.proofs.Tabling.{agreeing, agreeing-yes, agreeing-no, agreeing-turned}
+use Rattle.simulation.proofs.Gains.{gained, gained-none, gained-more, gained_pass}
+use Rattle.pair_tables.proofs.Tabling.{agreeing, agreeing_yes, agreeing_no, agreeing-turned}
 use Rattle.pair_tables.proofs.admitted_at.Statement.{statement}
 use Rattle.pair_tables.proofs.admitted_at.Tie as tie
 
@@ -54,15 +54,15 @@ loop-again c =
     let a = s.args in
     let l = c.before.before.before.before.loop in
     let P : Set = agreeing a.masks.now a.values.now a.sample in
-    let small : get_or a.masks.now l.u 0 < 2 ^ wordBits = below-take (2 ^ wordBits) a.masks.now s.requires.0.2 l.u (search rules) in (
+    let small : get_or a.masks.now l.u 0 < 2 ^ word_bits = below-take (2 ^ word_bits) a.masks.now s.requires.0.2 l.u (search rules) in (
       search rules,
       ⊎_elim
           (λ w.
           ap members w.2
-          ∙ gained-more none P l.u l.invariant.1 (agreeing-yes a.masks.now a.values.now a.sample l.u small w.0.taken) w.1.ensures)
+          ∙ gained-more none P l.u l.invariant.1 (agreeing_yes a.masks.now a.values.now a.sample l.u small w.0.taken) w.1.ensures)
           (λ w.
           ap members w.1
-          ∙ gained-pass none P l.u l.invariant.1 (agreeing-no a.masks.now a.values.now a.sample l.u small w.0.left))
+          ∙ gained_pass none P l.u l.invariant.1 (agreeing_no a.masks.now a.values.now a.sample l.u small w.0.left))
           c.if1.branch,
     )
 

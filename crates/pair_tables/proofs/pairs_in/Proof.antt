@@ -3,13 +3,13 @@ use Prim.Native.Nat.{◌-◌, ◌*◌, ◌≤◌}
 use borrow.Author.Rules.{rules}
 use native.Mathlib.Omega.{arith}
 use mathlib.Core.Path.{◌≡◌, ap, ◌∙◌}
-use Rattle.pair_tables.proofs.Tabling.{pairsTo, pairs-none, row-few, pairs-more}
+use Rattle.pair_tables.proofs.Tabling.{pairs_to, pairs-none, row-few, pairs-more}
 use Rattle.pair_tables.proofs.pairs_in.Statement.{statement}
 use Rattle.pair_tables.proofs.pairs_in.Tie as tie
-use Rattle.session.specs.Limits.{maxStates}
+use Rattle.session.specs.Limits.{max_states}
 
 abbrev invariant-loop : tie.invariant-loop
-invariant-loop table states nodes count₀ v₀ count v = (v ≤ nodes) × (count ≤ v * maxStates) × (count ≡ pairsTo table states v)
+invariant-loop table states nodes count₀ v₀ count v = (v ≤ nodes) × (count ≤ v * max_states) × (count ≡ pairs_to table states v)
 
 abbrev decreases-loop : tie.decreases-loop
 decreases-loop table states nodes count₀ v₀ count v = nodes - v
@@ -48,7 +48,7 @@ returns : tie.Need-returns invariant-loop decreases-loop
 returns c =
     let a = c.before.before.before.args in
     let l = c.before.loop in
-    l.invariant.2 ∙ ap (pairsTo a.table.now a.states) (omega arith)
+    l.invariant.2 ∙ ap (pairs_to a.table.now a.states) (omega arith)
 
 pub pairs-in-spec : {M : Type 1} → statement M
 pairs-in-spec =

@@ -7,17 +7,17 @@ use mathlib.Core.Bool.{Bool, not, cond}
 use lib.Bits.{bit_and, bit_xor}
 use lib.Dec.{eqb}
 use lib.ListN.{length, get_or, length-set}
-use Rattle.session.specs.Limits.{wordBits}
+use Rattle.session.specs.Limits.{word_bits}
 use Rattle.session.proofs.Admission.{matches-masked}
-use Rattle.pair_tables.proofs.Admitting.{Seen, seen_start, seen_step, seen_end, picked-le}
+use Rattle.pair_tables.proofs.Admitting.{Seen, seen_start, seen_step, seen_end, picked_le}
 use Rattle.pair_tables.proofs.put_turned.Statement.{statement}
 use Rattle.pair_tables.proofs.put_turned.Tie as tie
-use Rattle.bits.specs.Word.{setBits}
+use Rattle.bits.specs.Word.{set_bits}
 
 abbrev invariant-loop : tie.invariant-loop
 invariant-loop samples turn mask value u table₀ bit count₀ v₀ table count v =
     (v ≤ length samples) × (count ≤ v) × (length table ≡ length table₀)
-    × ((b : Bool) → turn ≡ cond b (2 ^ setBits - 1) 0 → Seen samples b mask value u table₀ v count table)
+    × ((b : Bool) → turn ≡ cond b (2 ^ set_bits - 1) 0 → Seen samples b mask value u table₀ v count table)
 
 abbrev decreases-loop : tie.decreases-loop
 decreases-loop samples turn mask value u table₀ bit count₀ v₀ table count v = length samples - v
@@ -66,7 +66,7 @@ few : (c : tie.After-chosen2 invariant-loop decreases-loop) → c.chosen2.result
 few c =
     let l = c.before.before.before.before.before in
     let turn = l.before.before.before.before.requires.1 in
-    picked-le (hit l turn.0) c.chosen2.result 1 (c.chosen2.ensures turn.0 turn.1)
+    picked_le (hit l turn.0) c.chosen2.result 1 (c.chosen2.ensures turn.0 turn.1)
 
 add-count : tie.Need-overflow-add-count invariant-loop decreases-loop
 add-count c = omega (arith, few c)
@@ -90,7 +90,7 @@ loop-again c =
       length-set l.loop.table l.loop.v _ ∙ l.loop.invariant.2,
       λ b e.
           seen_step a.samples.now b a.mask a.value a.u a.table.now (l.loop.invariant.3 b e) l.before.only.result p.result q.result
-          (hit l b) (search rules) (matches-masked wordBits b a.mask a.value sample s.requires.0.0) l.before.only.ensures (p.ensures b e)
+          (hit l b) (search rules) (matches-masked word_bits b a.mask a.value sample s.requires.0.0) l.before.only.ensures (p.ensures b e)
           (q.ensures b e),
     )
 

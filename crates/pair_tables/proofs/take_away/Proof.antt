@@ -26,8 +26,8 @@ slice-read-difference c = search rules
 mul-difference-2 : tie.Need-overflow-mul-difference-2 invariant-loop decreases-loop
 mul-difference-2 c = search rules
 
-shared-slice-read-difference : tie.Need-shared-slice-read-difference invariant-loop decreases-loop
-shared-slice-read-difference c = search rules
+shared_slice_read_difference : tie.Need-shared-slice-read-difference invariant-loop decreases-loop
+shared_slice_read_difference c = search rules
 
 difference-requires : tie.Need-difference-requires invariant-loop decreases-loop
 difference-requires c κs = search rules
@@ -67,7 +67,7 @@ take-away-spec =
     mul-difference
     slice-read-difference
     mul-difference-2
-    shared-slice-read-difference
+    shared_slice_read_difference
     difference-requires
     mul-table
     slice-write-table

@@ -10,8 +10,8 @@ use lib.ListN.{length, get_or}
 use Rattle.simulation.specs.Sets.{none}
 use Rattle.bits.specs.Word.{members}
 use Rattle.bits.proofs.Words.{zero-members}
-use Rattle.simulation.proofs.Gains.{gained, gained-none, gained-more, gained-pass}
-use Rattle.pair_tables.proofs.Tabling.{wanting, turned-are, turned_none}
+use Rattle.simulation.proofs.Gains.{gained, gained-none, gained-more, gained_pass}
+use Rattle.pair_tables.proofs.Tabling.{wanting, turned_are, turned_none}
 use Rattle.pair_tables.proofs.turned_states.Statement.{statement}
 use Rattle.pair_tables.proofs.turned_states.Tie as tie
 
@@ -53,7 +53,7 @@ loop-again c =
       search rules,
       ⊎_elim
           (λ w. ap members w.2 ∙ gained-more none (wanting masks) l.u l.invariant.1 (ap not (ne_eqb mask 0 w.0.taken)) w.1.ensures)
-          (λ w. ap members w.1 ∙ gained-pass none (wanting masks) l.u l.invariant.1 (ap not (eq-eqb mask 0 w.0.left)))
+          (λ w. ap members w.1 ∙ gained_pass none (wanting masks) l.u l.invariant.1 (ap not (eq-eqb mask 0 w.0.left)))
           c.if2.branch,
     )
 
@@ -61,7 +61,7 @@ returns-2 : tie.Need-returns-2 invariant-loop decreases-loop
 returns-2 c =
     let a = c.before.before.before.before.args in
     let l = c.before.loop in
-    turned-are a.masks.now l.u a.inverted l.wanting (omega arith) l.invariant.1
+    turned_are a.masks.now l.u a.inverted l.wanting (omega arith) l.invariant.1
 
 pub turned-states-spec : {M : Type 1} → statement M
 turned-states-spec =

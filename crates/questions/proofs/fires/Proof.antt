@@ -2,7 +2,7 @@
 use borrow.Author.Rules.{rules}
 use mathlib.Core.Path.{◌≡◌, sym, ◌∙◌}
 use mathlib.Core.Bool.{true}
-use Rattle.session.specs.Layout.{inLayout}
+use Rattle.session.specs.Layout.{in_layout}
 use Rattle.questions.proofs.Asked.{answer-refused, answer-accepted}
 use Rattle.promises.proofs.Passed.{question-passed}
 use Rattle.questions.proofs.fires.Statement.{statement}
@@ -15,7 +15,7 @@ returns : tie.Need-returns
 returns c = answer-refused _ _ c.before.question-rule.ensures _ c.if1.true
 
 -- what the rules leave
-passed : (c : tie.Else1) → inLayout c.before.before.before.args.session.now ≡ true
+passed : (c : tie.Else1) → in_layout c.before.before.before.args.session.now ≡ true
 passed c = (question-passed _ _ (sym c.before.question-rule.ensures ∙ c.if1.false)).0
 
 fires-now-requires : tie.Need-fires-now-requires

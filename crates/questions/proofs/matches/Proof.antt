@@ -4,9 +4,9 @@ use Prim.Native.Nat.{◌-◌}
 use native.Mathlib.Omega.{arith}
 use mathlib.Core.Path.{◌≡◌, sym, ◌∙◌}
 use mathlib.Core.Bool.{true}
-use Rattle.session.specs.Layout.{marksOf, inLayout}
-use Rattle.session.proofs.Decoded.{Bounded, layout-limits}
-use Rattle.questions.proofs.Asked.{Named, pair-passed, answer-refused, answer-accepted, mark-held}
+use Rattle.session.specs.Layout.{marks_of, in_layout}
+use Rattle.session.proofs.Decoded.{Bounded, layout_limits}
+use Rattle.questions.proofs.Asked.{Named, pair-passed, answer-refused, answer-accepted, mark_held}
 use Rattle.questions.proofs.matches.Statement.{statement}
 use Rattle.questions.proofs.matches.Tie as tie
 
@@ -25,28 +25,28 @@ mul-has c = search rules
 -- what the rules leave
 passed : (c : tie.Else1)
     → let a = c.before.before.before.args in
-    (inLayout a.session.now ≡ true) × Named a.session.now a.state a.node
+    (in_layout a.session.now ≡ true) × Named a.session.now a.state a.node
 passed c = pair-passed _ _ _ (sym c.before.pair-rule.ensures ∙ c.if1.false)
 
 bounded : (c : tie.Else1) → Bounded c.before.before.before.args.session.now
-bounded c = layout-limits _ (passed c).0
+bounded c = layout_limits _ (passed c).0
 
 shared-slice-read-has : tie.Need-shared-slice-read-has
-shared-slice-read-has c = omega (arith, (passed c.before).1.node-held, bounded c.before)
+shared-slice-read-has c = omega (arith, (passed c.before).1.node_held, bounded c.before)
 
 sub-has : tie.Need-overflow-sub-has
 sub-has c = omega (arith, (passed c.before).1.some)
 
 has-requires : tie.Need-has-requires
-has-requires c κs = let n = (passed c.before).1 in omega (arith, n.some, n.state-held, bounded c.before)
+has-requires c κs = let n = (passed c.before).1 in omega (arith, n.some, n.state_held, bounded c.before)
 
 -- the mark, as it was read
 read : (c : tie.After-has)
     → let a = c.before.before.before.before.before.args in
-    c.has.result ≡ marksOf a.session.now (a.state - 1) a.node
+    c.has.result ≡ marks_of a.session.now (a.state - 1) a.node
 read c =
     let n = (passed c.before.before).1 in
-    c.has.ensures ∙ mark-held _ _ _ (omega (arith, n.some, n.state-held)) n.node-held
+    c.has.ensures ∙ mark_held _ _ _ (omega (arith, n.some, n.state_held)) n.node_held
 
 returns-2 : tie.Need-returns-2
 returns-2 c =

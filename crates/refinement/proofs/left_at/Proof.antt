@@ -1,6 +1,6 @@
 -- The node's word is kept beside its edges.
 use Prim.Native.Nat.{ℕ}
-use Rattle.refinement.specs.Refining.{keptOf}
+use Rattle.refinement.specs.Refining.{kept_of}
 use Rattle.simulation.specs.Sets.{Set}
 use borrow.Author.Rules.{rules}
 use lib.ListN.{get_or}
@@ -24,7 +24,7 @@ kept-requires c κs = search rules
 returns : tie.Need-returns
 returns c =
     let a = c.before.before.before.before.before.before.before.before.args in
-    let keeps : List ℕ → Set = λ es. keptOf (get_or a.tentative.now a.v 0) a.links.now es a.settled.now a.tentative.now in
+    let keeps : List ℕ → Set = λ es. kept_of (get_or a.tentative.now a.v 0) a.links.now es a.settled.now a.tentative.now in
     c.kept.ensures ∙ ap keeps c.before.before.edges_at.ensures
 
 pub left-at-spec : {M : Type 1} → statement M

@@ -1,6 +1,6 @@
 -- `missing` meets its contract: before the edge k, the links that the edges below it carry are struck off.
 use Prim.Native.Nat.{◌-◌, ◌≤◌}
-use Rattle.refinement.proofs.Support.{Searching, searching-none, searching-more, searching-end, searching-done}
+use Rattle.refinement.proofs.Support.{Searching, searching_none, searching_more, searching_end, searching_done}
 use borrow.Author.Rules.{rules}
 use lib.ListN.{length}
 use native.Mathlib.Omega.{arith}
@@ -20,7 +20,7 @@ abbrev decreases-links : tie.decreases-links
 decreases-links set edges settled tentative rest₀ k₀ rest k = length edges - k
 
 links-holds : tie.Need-links-init invariant-loop decreases-loop invariant-links decreases-links
-links-holds c = let a = c.before.before.before.args in searching-none a.set a.edges.now a.settled.now a.tentative.now
+links-holds c = let a = c.before.before.before.args in searching_none a.set a.edges.now a.settled.now a.tentative.now
 
 lowest-requires : tie.Need-lowest-requires invariant-loop decreases-loop invariant-links decreases-links
 lowest-requires c κs = search rules
@@ -40,16 +40,16 @@ cast-end c = search rules
 mul-difference : tie.Need-overflow-mul-difference invariant-loop decreases-loop invariant-links decreases-links
 mul-difference c = search rules
 
-shared-slice-read-difference :
+shared_slice_read_difference :
     tie.Need-shared-slice-read-difference invariant-loop decreases-loop invariant-links decreases-links
-shared-slice-read-difference c = search rules
+shared_slice_read_difference c = search rules
 
 mul-difference-2 : tie.Need-overflow-mul-difference-2 invariant-loop decreases-loop invariant-links decreases-links
 mul-difference-2 c = search rules
 
-shared-slice-read-difference-2 :
+shared_slice_read_difference_2 :
     tie.Need-shared-slice-read-difference-2 invariant-loop decreases-loop invariant-links decreases-links
-shared-slice-read-difference-2 c = search rules
+shared_slice_read_difference_2 c = search rules
 
 difference-requires : tie.Need-difference-requires invariant-loop decreases-loop invariant-links decreases-links
 difference-requires c κs = search rules
@@ -67,7 +67,7 @@ loop-again : tie.Need-loop-preserved invariant-loop decreases-loop invariant-lin
 loop-again c =
     let l = c.before.before.before.before.before.before.before in
     let a = l.before.before.before.before.before.before.before.args in
-    (omega (arith, l.loop.invariant.0), searching-more a.set a.edges.now a.settled.now a.tentative.now l.loop.rest l.loop.k l.loop.invariant.1 (omega (arith, c.before.before.before.before.before.before.loop-test.false)) c.before.before.difference.result c.before.before.difference.ensures)
+    (omega (arith, l.loop.invariant.0), searching_more a.set a.edges.now a.settled.now a.tentative.now l.loop.rest l.loop.k l.loop.invariant.1 (omega (arith, c.before.before.before.before.before.before.loop-test.false)) c.before.before.difference.result c.before.before.difference.ensures)
 
 add-k-2 : tie.Need-overflow-add-k-2 invariant-loop decreases-loop invariant-links decreases-links
 add-k-2 c = search rules
@@ -79,13 +79,13 @@ links-again : tie.Need-links-preserved invariant-loop decreases-loop invariant-l
 links-again c =
     let l = c.before.before.before.before.before.before.before in
     let a = l.before.before.before.before.before.before.before.args in
-    searching-more a.set a.edges.now a.settled.now a.tentative.now l.loop.rest l.loop.k l.loop.invariant.1 (omega (arith, c.before.before.before.before.before.before.loop-test.false)) c.before.before.difference.result c.before.before.difference.ensures
+    searching_more a.set a.edges.now a.settled.now a.tentative.now l.loop.rest l.loop.k l.loop.invariant.1 (omega (arith, c.before.before.before.before.before.before.loop-test.false)) c.before.before.difference.result c.before.before.difference.ensures
 
 returns : tie.Need-returns invariant-loop decreases-loop invariant-links decreases-links
-returns c = let h = c.before in let a = h.before.before.before.before.args in searching-done a.set a.edges.now a.settled.now a.tentative.now h.links.rest h.links.k h.links.invariant c.links-test.false
+returns c = let h = c.before in let a = h.before.before.before.before.args in searching_done a.set a.edges.now a.settled.now a.tentative.now h.links.rest h.links.k h.links.invariant c.links-test.false
 
 returns-2 : tie.Need-returns-2 invariant-loop decreases-loop invariant-links decreases-links
-returns-2 c = let l = c.before in let a = l.before.before.before.before.before.before.before.args in searching-end a.set a.edges.now a.settled.now a.tentative.now l.loop.rest l.loop.k l.loop.invariant.1 c.loop-test.true
+returns-2 c = let l = c.before in let a = l.before.before.before.before.before.before.before.args in searching_end a.set a.edges.now a.settled.now a.tentative.now l.loop.rest l.loop.k l.loop.invariant.1 c.loop-test.true
 
 pub missing-spec : {M : Type 1} → statement M
 missing-spec =
@@ -102,9 +102,9 @@ missing-spec =
     shared-slice-read-end
     cast-end
     mul-difference
-    shared-slice-read-difference
+    shared_slice_read_difference
     mul-difference-2
-    shared-slice-read-difference-2
+    shared_slice_read_difference_2
     difference-requires
     has-requires
     add-k

@@ -2,14 +2,14 @@
 use native.Mathlib.Omega.{arith}
 use mathlib.Core.Path.{refl}
 use Rattle.pair_tables.proofs.Zeros.{zeros}
-use Rattle.refinement.proofs.Turns.{sound-below}
-use Rattle.refinement.proofs.Settling.{refining-end}
+use Rattle.refinement.proofs.Turns.{sound_below}
+use Rattle.refinement.proofs.Settling.{refining_end}
 use borrow.Author.Rules.{rules}
 use Rattle.refinement.proofs.refine_indexed.Statement.{statement}
 use Rattle.refinement.proofs.refine_indexed.Tie as tie
-use Rattle.session.specs.Limits.{maxNodes}
-use Rattle.bits.specs.Word.{setBits}
-use Rattle.edge_indexes.specs.Indexes.{startsSize}
+use Rattle.session.specs.Limits.{max_nodes}
+use Rattle.bits.specs.Word.{set_bits}
+use Rattle.edge_indexes.specs.Indexes.{starts_size}
 
 slice-aggregate-index-starts : tie.Need-slice-aggregate-index-starts
 slice-aggregate-index-starts c = search rules
@@ -18,7 +18,7 @@ index-starts-requires : tie.Need-index-starts-requires
 index-starts-requires c κs =
     let s = c.before.before.before.before.before.before in
     let a = s.args in
-    ((omega (arith, s.requires.1.0.few-edges), s.requires.1.0.ascend, sound-below a.nodes a.links.now a.edges.now s.requires.1.0, refl), zeros startsSize)
+    ((omega (arith, s.requires.1.0.few_edges), s.requires.1.0.ascend, sound_below a.nodes a.links.now a.edges.now s.requires.1.0, refl), zeros starts_size)
 
 slice-aggregate-index : tie.Need-slice-aggregate-index
 slice-aggregate-index c = search rules
@@ -27,13 +27,13 @@ slice-aggregate-index-2 : tie.Need-slice-aggregate-index-2
 slice-aggregate-index-2 c = search rules
 
 index-requires : tie.Need-index-requires
-index-requires c κs = let s = c.before.before.before.before.before.before.before.before.before.before in ((omega (arith, s.requires.1.0.few-edges), refl, refl), zeros maxNodes)
+index-requires c κs = let s = c.before.before.before.before.before.before.before.before.before.before in ((omega (arith, s.requires.1.0.few_edges), refl, refl), zeros max_nodes)
 
 slice-aggregate-index-callers : tie.Need-slice-aggregate-index-callers
 slice-aggregate-index-callers c = search rules
 
 index-callers-requires : tie.Need-index-callers-requires
-index-callers-requires c κs = let s = c.before.before.before.before.before.before.before.before.before.before.before.before.before.before in (omega (arith, s.requires.1.0.few-states), refl, zeros setBits)
+index-callers-requires c κs = let s = c.before.before.before.before.before.before.before.before.before.before.before.before.before.before in (omega (arith, s.requires.1.0.few_states), refl, zeros set_bits)
 
 slice-aggregate-refine : tie.Need-slice-aggregate-refine
 slice-aggregate-refine c = search rules
@@ -60,7 +60,7 @@ returns : tie.Need-returns
 returns c =
     let s = c.before.before.before.before.before.before.before.before.before.before.before.before.before.before.before.before.before.before.before.before.before.before.before.before.before.before.before in
     let r = c.before.before.before.before.refine in
-    refining-end _ _ _ s.requires.1.0 _ _ _ _ _ _ r.ensures.0 (r.ensures.1 (λ none. omega (arith, none, c.before.before.before.before.before.before.before.before.before.before.before.before.before.before.before.before.index.ensures.heads-long))) s.requires.1.1 s.requires.0.1
+    refining_end _ _ _ s.requires.1.0 _ _ _ _ _ _ r.ensures.0 (r.ensures.1 (λ none. omega (arith, none, c.before.before.before.before.before.before.before.before.before.before.before.before.before.before.before.before.index.ensures.heads_long))) s.requires.1.1 s.requires.0.1
 
 pub refine-indexed-spec : {M : Type 1} → statement M
 refine-indexed-spec =

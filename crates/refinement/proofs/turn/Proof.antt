@@ -1,12 +1,12 @@
 -- The node is taken out, and its word kept or cleared: the two laws of `Turns` make what is ensured.
-use Rattle.refinement.proofs.Turns.{sound-below, turned-cleared, turned-stayed}
+use Rattle.refinement.proofs.Turns.{sound_below, turned_cleared, turned_stayed}
 use borrow.Author.Rules.{rules}
 use lib.ListN.{length-set}
 use mathlib.Core.Path.{sym, ◌∙◌}
 use native.Mathlib.Omega.{arith}
 use Rattle.refinement.proofs.turn.Statement.{statement}
 use Rattle.refinement.proofs.turn.Tie as tie
-use Rattle.session.specs.Limits.{maxNodes}
+use Rattle.session.specs.Limits.{max_nodes}
 
 -- the places of the function's entry, from where the states that are left are known
 abbrev entry : tie.After-left-at → tie.Start
@@ -26,7 +26,7 @@ slice-read-word : tie.Need-slice-read-word
 slice-read-word c = search rules
 
 left-at-requires : tie.Need-left-at-requires
-left-at-requires c κs = let s = c.before.before.before.before.before.before.before.before.before.before.before.before.before.before.before in ((s.requires.0.0, s.requires.0.1, s.requires.0.3, omega (arith, s.requires.1.0.few-states)), (s.requires.1.0.ascend, omega (arith, s.requires.1.0.few-edges), s.requires.1.1))
+left-at-requires c κs = let s = c.before.before.before.before.before.before.before.before.before.before.before.before.before.before.before in ((s.requires.0.0, s.requires.0.1, s.requires.0.3, omega (arith, s.requires.1.0.few_states)), (s.requires.1.0.ascend, omega (arith, s.requires.1.0.few_edges), s.requires.1.1))
 
 mul-tentative : tie.Need-overflow-mul-tentative
 mul-tentative c = search rules
@@ -38,15 +38,15 @@ difference-requires : tie.Need-difference-requires
 difference-requires c κs = search rules
 
 calling-requires : tie.Need-calling-requires
-calling-requires c κs = let s = c.before.before.before.before.before.before.before.before.before.before.before.before.before.before.before.before.before.before in (omega (arith, s.requires.1.0.few-states), s.requires.1.3)
+calling-requires c κs = let s = c.before.before.before.before.before.before.before.before.before.before.before.before.before.before.before.before.before.before in (omega (arith, s.requires.1.0.few_states), s.requires.1.3)
 
 call-in-requires : tie.Need-call-in-requires
 call-in-requires c κs =
     let k = c.before.before.before.before.before in
     let s = entry k in
     let a = s.args in (
-      ((took k).take_out.ensures.0, omega (arith, s.pre.0), omega (arith, s.pre.1.0.few-edges), length-set a.tentative.now a.v k.left_at.result ∙ s.pre.0.1),
-      (sound-below maxNodes a.links.now a.edges.now s.pre.1.0, s.pre.1.2),
+      ((took k).take_out.ensures.0, omega (arith, s.pre.0), omega (arith, s.pre.1.0.few_edges), length-set a.tentative.now a.v k.left_at.result ∙ s.pre.0.1),
+      (sound_below max_nodes a.links.now a.edges.now s.pre.1.0, s.pre.1.2),
     )
 
 same_length : tie.Need-same-length
@@ -62,7 +62,7 @@ returns c =
     let a = s.args in
     let t = (took k).take_out in
     let called = c.before.before.call-in in
-    turned-cleared a.links.now a.edges.now a.settled.now a.tentative.now a.waiting.now a.v (omega (arith, s.pre.0))
+    turned_cleared a.links.now a.edges.now a.settled.now a.tentative.now a.waiting.now a.v (omega (arith, s.pre.0))
     t.last.0 (t.ensures.0 ∙ sym s.pre.0.2) t.ensures.1 k.left_at.result k.left_at.ensures
     called.new.0 c.before.before.before.before.before.before.difference.result c.before.before.before.before.before.calling.result (called.ensures.0 ∙ sym s.pre.0.2) c.before.before.before.before.before.before.difference.ensures c.before.before.before.before.before.calling.ensures called.ensures.1
 
@@ -78,7 +78,7 @@ returns-2 c =
     let s = entry k in
     let a = s.args in
     let t = (took k).take_out in
-    turned-stayed a.links.now a.edges.now a.settled.now a.tentative.now a.waiting.now a.v (omega (arith, s.pre.0))
+    turned_stayed a.links.now a.edges.now a.settled.now a.tentative.now a.waiting.now a.v (omega (arith, s.pre.0))
     t.last.0 (t.ensures.0 ∙ sym s.pre.0.2) t.ensures.1 k.left_at.result k.left_at.ensures
     c.if1.false
 

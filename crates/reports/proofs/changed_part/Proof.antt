@@ -3,7 +3,7 @@ use borrow.Author.Rules.{rules}
 use borrow.Author.Tests.{le-leb, lt-leb}
 use mathlib.Core.Path.{sym}
 use lib.Seq.{length-take-le}
-use Rattle.promises.specs.Answers.{handedBack}
+use Rattle.promises.specs.Answers.{handed_back}
 use Rattle.reports.proofs.changed_part.Statement.{statement}
 use Rattle.reports.proofs.changed_part.Tie as tie
 
@@ -20,11 +20,11 @@ slice-aggregate-result-2 : tie.Need-slice-aggregate-result-2
 slice-aggregate-result-2 c = search rules
 
 returns : tie.Need-returns
-unfolding handedBack
+unfolding handed_back
 returns c = rw (← c.before.before.changes-in.ensures) (simp (le-leb _ _ c.before.if1.true))
 
 returns-2 : tie.Need-returns-2
-unfolding handedBack
+unfolding handed_back
 returns-2 c = rw (← c.before.before.changes-in.ensures) (simp (lt-leb _ _ c.before.if1.false))
 
 pub changed-part-spec : {M : Type 1} → statement M

@@ -2,7 +2,7 @@
 use borrow.Author.Rules.{rules}
 use native.Mathlib.Omega.{arith}
 use mathlib.Core.Path.{◌∙◌}
-use Rattle.session.proofs.Decoded.{Bounded, layout-limits}
+use Rattle.session.proofs.Decoded.{Bounded, layout_limits}
 use Rattle.session_parts.proofs.Parts.{held-links}
 use Rattle.reports.proofs.Held.{held-firing}
 use Rattle.reports.proofs.fires_now.Statement.{statement}
@@ -10,7 +10,7 @@ use Rattle.reports.proofs.fires_now.Tie as tie
 
 -- the counts of the session keep their limits
 abbrev bounded : (s : tie.Start) → Bounded s.args.session.now
-bounded s = layout-limits s.args.session.now s.requires
+bounded s = layout_limits s.args.session.now s.requires
 
 shared-slice-read-end : tie.Need-shared-slice-read-end
 shared-slice-read-end c = omega (arith, bounded c.before.before)

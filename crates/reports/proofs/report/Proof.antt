@@ -1,8 +1,8 @@
 -- The list is written from the marks of the session, and the answer tells its length.
 use native.Mathlib.Omega.{arith}
 use lib.ListN.{length-take, length-drop, take, drop}
-use Rattle.session.specs.Limits.{marksAt, maxNodes}
-use Rattle.session.proofs.Decoded.{Bounded, layout-limits}
+use Rattle.session.specs.Limits.{marks_at, max_nodes}
+use Rattle.session.proofs.Decoded.{Bounded, layout_limits}
 use Rattle.reports.proofs.Held.{held-few}
 use Rattle.reports.proofs.Reported.{reported}
 use borrow.Author.Rules.{rules}
@@ -11,7 +11,7 @@ use Rattle.reports.proofs.report.Tie as tie
 
 -- the counts of the session keep their limits
 abbrev bounded : (s : tie.Start) → Bounded s.args.session.now
-bounded s = layout-limits s.args.session.now s.requires.0
+bounded s = layout_limits s.args.session.now s.requires.0
 
 shared-slice-read-states : tie.Need-shared-slice-read-states
 shared-slice-read-states c = omega (arith, bounded c.before.before.before)
@@ -34,12 +34,12 @@ part-write-changes-end c = omega (arith, bounded c.before.before.before.before.b
 write-changes-requires : tie.Need-write-changes-requires
 write-changes-requires c κs =
     let s = c.before.before.before.before.before.before in
-    omega (arith, bounded s, s.requires, length-take maxNodes (drop marksAt s.args.session.now), length-drop marksAt s.args.session.now)
+    omega (arith, bounded s, s.requires, length-take max_nodes (drop marks_at s.args.session.now), length-drop marks_at s.args.session.now)
 
 cast-count : tie.Need-overflow-cast-count
 cast-count c =
     let s = c.before.before.before.before.before.before.before.before in
-    omega (arith, c.before.write-changes.ensures.past, held-few s.args.session.now s.requires.0 s.args.before.now (take maxNodes (drop marksAt s.args.session.now)))
+    omega (arith, c.before.write-changes.ensures.past, held-few s.args.session.now s.requires.0 s.args.before.now (take max_nodes (drop marks_at s.args.session.now)))
 
 answered-requires : tie.Need-answered-requires
 answered-requires c κs = search rules

@@ -7,9 +7,9 @@ use mathlib.Core.List.{List, ◌++◌}
 use lib.ListN.{length, get_or, take, drop, replicate}
 use lib.Seq.{length-take-le}
 use Rattle.simulation.specs.Sets.{Set, all_below}
-use Rattle.simulation.proofs.Sets.{all-make}
+use Rattle.simulation.proofs.Sets.{all_make}
 use Rattle.bits.specs.Word.{members}
-use Rattle.session.specs.Limits.{wordBits, maxNodes}
+use Rattle.session.specs.Limits.{word_bits, max_nodes}
 use Rattle.session.specs.Trigger.{matches, accepts}
 use Rattle.session.specs.Tests.{sparse}
 use Rattle.bits.proofs.Words.{zero-members}
@@ -25,15 +25,15 @@ abbrev nodes : tie.After-shared-slice-known4 → ℕ
 nodes c = length (start c).args.marks.now
 
 abbrev zeros : List ℕ
-zeros = replicate maxNodes 0
+zeros = replicate max_nodes 0
 
 returns : tie.Need-returns
 returns c =
     let s = start c.before in
     let a = s.args in
-    let test : ℕ → Set = λ u. accepts wordBits (members a.inverted u) (get_or a.masks.now u 0) (get_or a.values.now u 0) in
+    let test : ℕ → Set = λ u. accepts word_bits (members a.inverted u) (get_or a.masks.now u 0) (get_or a.values.now u 0) in
     sym
-    (all-make (length a.masks.now) (λ u. sparse a.samples.now a.marks.now (test u) u)
+    (all_make (length a.masks.now) (λ u. sparse a.samples.now a.marks.now (test u) u)
     (λ u l.
     sparse-none a.samples.now a.marks.now (test u) u
     (ap (λ (X : Set). X u) (sym s.pre.1.1.1) ∙ ap (λ (w : ℕ). members w u) c.if1.true ∙ zero-members u)))
@@ -89,7 +89,7 @@ returns-2 c =
     c.both-admitted.ensures
     ∙ ap
     (λ (ss : List ℕ).
-    all_below (length a.masks.now) (λ u. sparse ss a.marks.now (matches wordBits (members t.turned-states.result u) (get_or a.masks.now u 0) (get_or a.values.now u 0)) u))
+    all_below (length a.masks.now) (λ u. sparse ss a.marks.now (matches word_bits (members t.turned-states.result u) (get_or a.masks.now u 0) (get_or a.values.now u 0)) u))
     (samples-read n)
     ∙ sparse-turned a.samples.now a.marks.now a.masks.now a.values.now a.inverted t.turned-states.result t.turned-states.ensures
 

@@ -10,7 +10,7 @@ use lib.Dec.{ltb}
 use lib.ListN.{length, get_or}
 use Rattle.simulation.specs.Sets.{Set}
 use Rattle.simulation.specs.Ordered.{ascends}
-use Rattle.simulation.proofs.Folds.{Folded, fold_start, fold-pass, fold-fault, fold_end}
+use Rattle.simulation.proofs.Folds.{Folded, fold_start, fold_pass, fold_fault, fold_end}
 use Rattle.section_tests.proofs.all_ascend.Statement.{statement}
 use Rattle.section_tests.proofs.all_ascend.Tie as tie
 
@@ -60,11 +60,11 @@ loop-again c =
           (⊎_elim
           (λ w.
           rw w.1
-          (fold-fault (rises es) (length es - 1) j (omega arith)
+          (fold_fault (rises es) (length es - 1) j (omega arith)
           (rw here (le-ltb (get_or es j 0) (get_or es l.k 0) w.0.taken))))
           (λ w.
           rw w.1
-          (fold-pass (rises es) (length es - 1) l.faults j l.invariant.1 (omega arith)
+          (fold_pass (rises es) (length es - 1) l.faults j l.invariant.1 (omega arith)
           (rw here (lt-ltb (get_or es j 0) (get_or es l.k 0) w.0.left))))
           c.if1.branch),
     )

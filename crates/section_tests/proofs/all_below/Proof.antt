@@ -8,7 +8,7 @@ use lib.Dec.{ltb}
 use lib.ListN.{length, get_or}
 use Rattle.simulation.specs.Sets.{Set}
 use Rattle.session.specs.Layout.{below}
-use Rattle.simulation.proofs.Folds.{Folded, fold_start, fold-pass, fold-fault, fold_end}
+use Rattle.simulation.proofs.Folds.{Folded, fold_start, fold_pass, fold_fault, fold_end}
 use Rattle.section_tests.proofs.all_below.Statement.{statement}
 use Rattle.section_tests.proofs.all_below.Tie as tie
 
@@ -40,8 +40,8 @@ loop-again c =
     let P : Set = λ j. ltb (get_or a.words.now j 0) a.limit in
     let n = length a.words.now in
     ⊎_elim
-    (λ w. rw w.1 (fold-fault P n l.k (omega arith) (le-ltb (get_or a.words.now l.k 0) a.limit w.0.taken)))
-    (λ w. rw w.1 (fold-pass P n l.faults l.k l.invariant (omega arith) (lt-ltb (get_or a.words.now l.k 0) a.limit w.0.left)))
+    (λ w. rw w.1 (fold_fault P n l.k (omega arith) (le-ltb (get_or a.words.now l.k 0) a.limit w.0.taken)))
+    (λ w. rw w.1 (fold_pass P n l.faults l.k l.invariant (omega arith) (lt-ltb (get_or a.words.now l.k 0) a.limit w.0.left)))
     c.if1.branch
 
 returns : tie.Need-returns invariant-loop decreases-loop

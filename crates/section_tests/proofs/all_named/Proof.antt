@@ -1,7 +1,7 @@
 -- `all_named` meets its contract: the last start is tested, and a fault is noted where an edge's end is no node.
 use Prim.Native.Nat.{◌-◌, ◌%◌}
-use Rattle.simulation.proofs.Folds.{Folded, fold_start, fold-pass, fold-fault, fold_end}
-use Rattle.section_tests.proofs.Named.{ending, none_named, start-fails, ends-decide}
+use Rattle.simulation.proofs.Folds.{Folded, fold_start, fold_pass, fold_fault, fold_end}
+use Rattle.section_tests.proofs.Named.{ending, none_named, start_fails, ends_decide}
 use Rattle.simulation.specs.Sets.{Set}
 use borrow.Author.Rules.{rules}
 use borrow.Author.Tests.{lt-ltb, le-ltb}
@@ -11,7 +11,7 @@ use mathlib.Core.Path.{◌∙◌}
 use native.Mathlib.Omega.{arith}
 use Rattle.section_tests.proofs.all_named.Statement.{statement}
 use Rattle.section_tests.proofs.all_named.Tie as tie
-use Rattle.session.specs.Limits.{maxNodes}
+use Rattle.session.specs.Limits.{max_nodes}
 
 abbrev invariant-loop : tie.invariant-loop
 invariant-loop edges nodes count last faults₀ k₀ faults k = Folded (ending nodes edges) (length edges) faults k
@@ -32,7 +32,7 @@ shared-slice-read-if2 : tie.Need-shared-slice-read-if2 invariant-loop decreases-
 shared-slice-read-if2 c = search rules
 
 returns-2 : tie.Need-returns-2 invariant-loop decreases-loop
-returns-2 c = let a = c.before.before.before.args in start-fails a.nodes a.edges.now (length a.edges.now - 1) (omega arith) c.if2.true
+returns-2 c = let a = c.before.before.before.args in start_fails a.nodes a.edges.now (length a.edges.now - 1) (omega arith) c.if2.true
 
 sub-last : tie.Need-overflow-sub-last invariant-loop decreases-loop
 sub-last c = search rules
@@ -60,8 +60,8 @@ loop-again c =
     let e = get_or a.edges.now l.k 0 in
     let E : Set = ending a.nodes a.edges.now in
     ⊎_elim
-    (λ w. rw w.1 (fold-fault E n l.k (omega arith) (le-ltb (e % maxNodes) a.nodes (omega (arith, w.0.taken)))))
-    (λ w. rw w.1 (fold-pass E n l.faults l.k l.invariant (omega arith) (lt-ltb (e % maxNodes) a.nodes (omega (arith, w.0.left)))))
+    (λ w. rw w.1 (fold_fault E n l.k (omega arith) (le-ltb (e % max_nodes) a.nodes (omega (arith, w.0.taken)))))
+    (λ w. rw w.1 (fold_pass E n l.faults l.k l.invariant (omega arith) (lt-ltb (e % max_nodes) a.nodes (omega (arith, w.0.left)))))
     c.if3.branch
 
 returns-3 : tie.Need-returns-3 invariant-loop decreases-loop
@@ -70,7 +70,7 @@ returns-3 c =
     let a = s.args in
     let l = c.before.loop in
     fold_end (ending a.nodes a.edges.now) (length a.edges.now) l.faults l.k l.invariant (omega arith)
-    ∙ ends-decide a.nodes a.edges.now s.requires (omega (arith, c.before.before.if2.false))
+    ∙ ends_decide a.nodes a.edges.now s.requires (omega (arith, c.before.before.if2.false))
 
 pub all-named-spec : {M : Type 1} → statement M
 all-named-spec =

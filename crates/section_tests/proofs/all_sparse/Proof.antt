@@ -12,19 +12,19 @@ use Rattle.simulation.specs.Sets.{Set}
 use Rattle.bits.specs.Word.{members}
 use Rattle.bits.proofs.Words.{and_again}
 use Rattle.bits.proofs.Gathers.{gathers}
-use Rattle.session.specs.Limits.{wordBits}
+use Rattle.session.specs.Limits.{word_bits}
 use Rattle.session.specs.Trigger.{matches}
 use Rattle.session.specs.Tests.{sparse}
 use Rattle.session.proofs.Admission.{matches-part}
 use Rattle.session.proofs.Tables.{below-take}
 use Rattle.section_tests.proofs.Unadmitted.{stray, sparse-stray, sparse-same, sparse-none}
-use Rattle.simulation.proofs.Folds.{Folded, fold_start, fold-pass, fold-fault, fold_end}
+use Rattle.simulation.proofs.Folds.{Folded, fold_start, fold_pass, fold_fault, fold_end}
 use Rattle.section_tests.proofs.all_sparse.Statement.{statement}
 use Rattle.section_tests.proofs.all_sparse.Tie as tie
 
 -- the marks of the state u are admitted
 abbrev admitted : List ℕ → List ℕ → ℕ → List ℕ → List ℕ → Set
-admitted masks values turned samples marks u = sparse samples marks (matches wordBits (members turned u) (get_or masks u 0) (get_or values u 0)) u
+admitted masks values turned samples marks u = sparse samples marks (matches word_bits (members turned u) (get_or masks u 0) (get_or values u 0)) u
 
 abbrev invariant-loop : tie.invariant-loop
 invariant-loop masks values turned samples marks used faults₀ u₀ faults u = Folded (admitted masks values turned samples marks) (length masks) faults u
@@ -36,15 +36,15 @@ abbrev start : tie.In-loop invariant-loop decreases-loop → tie.Start invariant
 start c = c.before.before.before.before.before.before
 
 -- what the marks that are found say, with the part of the value inside the mask
-tested : (samples marks : List ℕ) (turned : ℕ) (over : Bool) (mask value all u : ℕ) → mask < 2 ^ wordBits → over ≡ members turned u
-    → members all ≡ gathers (length marks) (stray samples marks (matches wordBits over mask (bit_and value mask)))
-    → sparse samples marks (matches wordBits (members turned u) mask value) u ≡ not (members all u)
+tested : (samples marks : List ℕ) (turned : ℕ) (over : Bool) (mask value all u : ℕ) → mask < 2 ^ word_bits → over ≡ members turned u
+    → members all ≡ gathers (length marks) (stray samples marks (matches word_bits over mask (bit_and value mask)))
+    → sparse samples marks (matches word_bits (members turned u) mask value) u ≡ not (members all u)
 tested samples marks turned over mask value all u h t e =
-    let inside : Set = matches wordBits over mask (bit_and value mask) in
+    let inside : Set = matches word_bits over mask (bit_and value mask) in
     rw (← t)
     (sym
     (sparse-stray samples marks inside all u e
-    ∙ sparse-same samples marks inside (matches wordBits over mask value) (λ x. matches-part wordBits over mask value x h) u))
+    ∙ sparse-same samples marks inside (matches word_bits over mask value) (λ x. matches-part word_bits over mask value x h) u))
 
 loop-holds : tie.Need-loop-init invariant-loop decreases-loop
 loop-holds c =
@@ -70,8 +70,8 @@ shared-slice-read-wanted : tie.Need-shared-slice-read-wanted invariant-loop decr
 shared-slice-read-wanted c = search rules
 
 -- a mask is a word
-small : (c : tie.In-loop invariant-loop decreases-loop) → get_or (start c).args.masks.now c.before.loop.u 0 < 2 ^ wordBits
-small c = below-take (2 ^ wordBits) (start c).args.masks.now (start c).requires.1.0 c.before.loop.u (omega arith)
+small : (c : tie.In-loop invariant-loop decreases-loop) → get_or (start c).args.masks.now c.before.loop.u 0 < 2 ^ word_bits
+small c = below-take (2 ^ word_bits) (start c).args.masks.now (start c).requires.1.0 c.before.loop.u (omega arith)
 
 cast-has-2 : tie.Need-overflow-cast-has-2 invariant-loop decreases-loop
 cast-has-2 c = search rules
@@ -123,19 +123,19 @@ loop-again c =
     ⊎_elim
     (λ w.
     rw w.7
-    (fold-fault P n l.u (omega arith)
+    (fold_fault P n l.u (omega arith)
     (tested a.samples.now a.marks.now a.turned w.3.result mask value w.4.result l.u (small t) w.3.ensures w.4.ensures
     ∙ ap not (sym w.5.ensures ∙ w.6.taken))))
     (⊎_elim
     (λ w.
     rw w.7
-    (fold-pass P n l.faults l.u l.invariant (omega arith)
+    (fold_pass P n l.faults l.u l.invariant (omega arith)
     (tested a.samples.now a.marks.now a.turned w.3.result mask value w.4.result l.u (small t) w.3.ensures w.4.ensures
     ∙ ap not (sym w.5.ensures ∙ w.6.left))))
     (λ w.
     rw w.1
-    (fold-pass P n l.faults l.u l.invariant (omega arith)
-    (sparse-none a.samples.now a.marks.now (matches wordBits (members a.turned l.u) mask value) l.u (sym ((start t).requires.1.1 l.u (omega arith)) ∙ sym c.before.has.ensures ∙ w.0.left)))))
+    (fold_pass P n l.faults l.u l.invariant (omega arith)
+    (sparse-none a.samples.now a.marks.now (matches word_bits (members a.turned l.u) mask value) l.u (sym ((start t).requires.1.1 l.u (omega arith)) ∙ sym c.before.has.ensures ∙ w.0.left)))))
     c.if1.branch
 
 returns : tie.Need-returns invariant-loop decreases-loop

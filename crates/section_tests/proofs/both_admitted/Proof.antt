@@ -9,12 +9,12 @@ use lib.ListN.{length, get_or, take, drop, length-drop}
 use lib.Seq.{take_all, length-take-le}
 use Rattle.simulation.specs.Sets.{all_below}
 use borrow.Author.Tests.{not-true, not-false}
-use Rattle.bits.specs.Word.{members, halfBits}
-use Rattle.session.specs.Limits.{wordBits}
+use Rattle.bits.specs.Word.{members, half_bits}
+use Rattle.session.specs.Limits.{word_bits}
 use Rattle.session.specs.Trigger.{matches}
 use Rattle.session.specs.Tests.{sparse}
 use Rattle.session.proofs.Tables.{whole_below}
-use Rattle.section_tests.proofs.Unadmitted.{admitted, admitted-whole, admitted-parts}
+use Rattle.section_tests.proofs.Unadmitted.{admitted, admitted-whole, admitted_parts}
 use Rattle.section_tests.proofs.both_admitted.Statement.{statement}
 use Rattle.section_tests.proofs.both_admitted.Tie as tie
 
@@ -35,7 +35,7 @@ front : (n : ℕ) (xs : List ℕ) → n ≤ length xs → n ≡ length (take n x
 front n xs l = sym (length-take-le n xs l)
 
 slice-aggregate-low : tie.Need-slice-aggregate-low
-slice-aggregate-low c = front halfBits (start c.before.before).args.masks.now (omega arith)
+slice-aggregate-low c = front half_bits (start c.before.before).args.masks.now (omega arith)
 
 sub-high : tie.Need-overflow-sub-high
 sub-high c = search rules
@@ -48,35 +48,35 @@ part-high-end c = search rules
 
 slice-aggregate-half-admitted : tie.Need-slice-aggregate-half-admitted
 slice-aggregate-half-admitted c =
-    let s = start c.before.before.before.before in front halfBits s.args.values.now (omega (arith, s.pre.0.1))
+    let s = start c.before.before.before.before in front half_bits s.args.values.now (omega (arith, s.pre.0.1))
 
 half-admitted-requires-2 : tie.Need-half-admitted-requires-2
 half-admitted-requires-2 c κs =
     let s = start c.before.before.before.before in
     let a = s.args in
-    let masks = front halfBits a.masks.now (omega arith) in
-    let values = front halfBits a.values.now (omega (arith, s.pre.0.1)) in (
+    let masks = front half_bits a.masks.now (omega arith) in
+    let values = front half_bits a.values.now (omega (arith, s.pre.0.1)) in (
       (s.pre.0.0, sym values ∙ masks, omega (arith, masks)),
-      (whole_below a.masks.now 0 halfBits (2 ^ wordBits) (omega arith) s.pre.1.0, ((s.pre.1.1.0, omega arith), s.pre.1.1.1)),
+      (whole_below a.masks.now 0 half_bits (2 ^ word_bits) (omega arith) s.pre.1.0, ((s.pre.1.1.0, omega arith), s.pre.1.1.1)),
     )
 
 -- what the two parts together say
-parts : (c : tie.After-shared-slice-known4) → let a = (start c).args in halfBits ≤ length a.masks.now
+parts : (c : tie.After-shared-slice-known4) → let a = (start c).args in half_bits ≤ length a.masks.now
     → let part : List ℕ → List ℕ → ℕ → Bool = λ ms vs k. all_below (length ms) (admitted a.samples.now a.marks.now a.turned ms vs k) in
-    (low high : Bool) → low ≡ part (take halfBits a.masks.now) (take halfBits a.values.now) 0
+    (low high : Bool) → low ≡ part (take half_bits a.masks.now) (take half_bits a.values.now) 0
     → high
-    ≡ part (take (length a.masks.now - halfBits) (drop halfBits a.masks.now)) (take (length a.values.now - halfBits) (drop halfBits a.values.now))
-    halfBits
+    ≡ part (take (length a.masks.now - half_bits) (drop half_bits a.masks.now)) (take (length a.values.now - half_bits) (drop half_bits a.values.now))
+    half_bits
     → (low && high)
-    ≡ all_below (length a.masks.now) (λ u. sparse a.samples.now a.marks.now (matches wordBits (members a.turned u) (get_or a.masks.now u 0) (get_or a.values.now u 0)) u)
+    ≡ all_below (length a.masks.now) (λ u. sparse a.samples.now a.marks.now (matches word_bits (members a.turned u) (get_or a.masks.now u 0) (get_or a.values.now u 0)) u)
 parts c l low high e h =
     let a = (start c).args in
     let part : List ℕ → List ℕ → ℕ → Bool = λ ms vs k. all_below (length ms) (admitted a.samples.now a.marks.now a.turned ms vs k) in
-    ap₂ ◌&&◌ e (h ∙ ap₂ (λ (ms vs : List ℕ). part ms vs halfBits) (rest a.masks.now) (rest a.values.now))
-    ∙ admitted-parts a.samples.now a.marks.now a.turned a.masks.now a.values.now halfBits l
+    ap₂ ◌&&◌ e (h ∙ ap₂ (λ (ms vs : List ℕ). part ms vs half_bits) (rest a.masks.now) (rest a.values.now))
+    ∙ admitted_parts a.samples.now a.marks.now a.turned a.masks.now a.values.now half_bits l
   where
-    rest : (xs : List ℕ) → take (length xs - halfBits) (drop halfBits xs) ≡ drop halfBits xs
-    rest xs = take_all (length xs - halfBits) (drop halfBits xs) (omega (arith, length-drop halfBits xs))
+    rest : (xs : List ℕ) → take (length xs - half_bits) (drop half_bits xs) ≡ drop half_bits xs
+    rest xs = take_all (length xs - half_bits) (drop half_bits xs) (omega (arith, length-drop half_bits xs))
 
 returns-2 : tie.Need-returns-2
 returns-2 c =
@@ -84,7 +84,7 @@ returns-2 c =
     let a = (start g).args in
     let ms = a.masks.now in
     let vs = a.values.now in
-    let high = all_below (length (take (length ms - halfBits) (drop halfBits ms))) (admitted a.samples.now a.marks.now a.turned (take (length ms - halfBits) (drop halfBits ms)) (take (length vs - halfBits) (drop halfBits vs)) halfBits) in
+    let high = all_below (length (take (length ms - half_bits) (drop half_bits ms))) (admitted a.samples.now a.marks.now a.turned (take (length ms - half_bits) (drop half_bits ms)) (take (length vs - half_bits) (drop half_bits vs)) half_bits) in
     ap (λ (b : Bool). b && high) (sym (not-true c.before.half-admitted2.result c.if2.true))
     ∙ parts g (omega arith) c.before.half-admitted2.result high c.before.half-admitted2.ensures refl
 
@@ -104,11 +104,11 @@ half-admitted-requires-3 : tie.Need-half-admitted-requires-3
 half-admitted-requires-3 c κs =
     let s = start c.before.before.before.before.before.before.before in
     let a = s.args in
-    let rest : (xs : List ℕ) → length (take (length xs - halfBits) (drop halfBits xs)) ≡ length xs - halfBits = λ xs.
-    length-take-le (length xs - halfBits) (drop halfBits xs) (omega (arith, length-drop halfBits xs)) in (
-      (s.pre.0.0, rest a.values.now ∙ ap (λ (n : ℕ). n - halfBits) s.pre.0.1 ∙ sym (rest a.masks.now), omega (arith, rest a.masks.now, s.pre.0.2)),
+    let rest : (xs : List ℕ) → length (take (length xs - half_bits) (drop half_bits xs)) ≡ length xs - half_bits = λ xs.
+    length-take-le (length xs - half_bits) (drop half_bits xs) (omega (arith, length-drop half_bits xs)) in (
+      (s.pre.0.0, rest a.values.now ∙ ap (λ (n : ℕ). n - half_bits) s.pre.0.1 ∙ sym (rest a.masks.now), omega (arith, rest a.masks.now, s.pre.0.2)),
       (
-        whole_below a.masks.now halfBits (length a.masks.now - halfBits) (2 ^ wordBits) (omega arith) s.pre.1.0,
+        whole_below a.masks.now half_bits (length a.masks.now - half_bits) (2 ^ word_bits) (omega arith) s.pre.1.0,
         ((s.pre.1.1.0, omega arith), s.pre.1.1.1),
       ),
     )

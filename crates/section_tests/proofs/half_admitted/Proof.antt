@@ -8,21 +8,21 @@ use mathlib.Core.List.{List, ◌++◌}
 use lib.ListN.{length, get_or, take, drop, replicate}
 use lib.Seq.{length-take-le}
 use Rattle.simulation.specs.Sets.{Set, all_below}
-use Rattle.simulation.proofs.Sets.{all-make}
+use Rattle.simulation.proofs.Sets.{all_make}
 use Rattle.simulation.proofs.Edges.{all_same}
 use Rattle.bits.specs.Word.{members}
-use Rattle.bits.proofs.Words.{zero-members, shifted-members}
+use Rattle.bits.proofs.Words.{zero-members, shifted_members}
 use Rattle.bits.proofs.Gathers.{gathers}
-use Rattle.session.specs.Limits.{wordBits, maxNodes}
+use Rattle.session.specs.Limits.{word_bits, max_nodes}
 use Rattle.session.specs.Trigger.{matches}
 use Rattle.session.specs.Tests.{sparse, halves}
-use Rattle.section_tests.proofs.Unadmitted.{sparse-none, halves_long, sparse-half, used-half, admitted}
+use Rattle.section_tests.proofs.Unadmitted.{sparse-none, halves_long, sparse-half, used_half, admitted}
 use Rattle.sections.proofs.Fills.{front_read, front-inside}
 use Rattle.section_tests.proofs.half_admitted.Statement.{statement}
 use Rattle.section_tests.proofs.half_admitted.Tie as tie
 
 abbrev zeros : List ℕ
-zeros = replicate maxNodes 0
+zeros = replicate max_nodes 0
 
 abbrev start : tie.After-shared-slice-known4 → tie.Start
 start g = g.before.before.before.before
@@ -36,12 +36,12 @@ returns c =
     let a = s.args in
     let first = a.first in
     sym
-    (all-make (length a.masks.now) (admitted a.samples.now a.marks.now a.turned a.masks.now a.values.now first)
+    (all_make (length a.masks.now) (admitted a.samples.now a.marks.now a.turned a.masks.now a.values.now first)
     (λ u l.
-    sparse-none a.samples.now a.marks.now (matches wordBits (members a.turned (first + u)) (get_or a.masks.now u 0) (get_or a.values.now u 0))
+    sparse-none a.samples.now a.marks.now (matches word_bits (members a.turned (first + u)) (get_or a.masks.now u 0) (get_or a.values.now u 0))
     (first + u)
     (ap (λ (X : Set). X (first + u)) (sym s.pre.1.1.1)
-    ∙ sym (shifted-members first a.used u)
+    ∙ sym (shifted_members first a.used u)
     ∙ ap (λ (w : ℕ). members w u) c.if1.true
     ∙ zero-members u)))
 
@@ -62,11 +62,11 @@ shr-all-sparse : tie.Need-overflow-shr-all-sparse
 shr-all-sparse c = search rules
 
 -- what is read of the array
-signs-read : (c : tie.After-narrow)
+signs_read : (c : tie.After-narrow)
     → let a = (start c.before.before.before).args in
     let n = length a.marks.now in
     take n (c.narrow.new.0 ++ drop n zeros) ≡ halves a.first a.marks.now
-signs-read c =
+signs_read c =
     let a = (start c.before.before.before).args in
     front_read zeros c.narrow.new.0 (halves a.first a.marks.now) (length a.marks.now) c.narrow.ensures
     (halves_long a.marks.now a.first)
@@ -82,19 +82,19 @@ slice-aggregate-all-sparse : tie.Need-slice-aggregate-all-sparse
 slice-aggregate-all-sparse c =
     let m = c.before.before in
     let a = (start m.before.before.before).args in
-    sym (ap length (signs-read m) ∙ halves_long a.marks.now a.first)
+    sym (ap length (signs_read m) ∙ halves_long a.marks.now a.first)
 
 all-sparse-requires : tie.Need-all-sparse-requires
 all-sparse-requires c κs =
     let m = c.before.before in
     let s = start m.before.before.before in
     let a = s.args in (
-      (s.pre.0.0 ∙ sym (ap length (signs-read m) ∙ halves_long a.marks.now a.first), s.pre.0.1, s.pre.0.2),
+      (s.pre.0.0 ∙ sym (ap length (signs_read m) ∙ halves_long a.marks.now a.first), s.pre.0.1, s.pre.0.2),
       (
         s.pre.1.0,
         λ u l.
-            subst (λ (ms : List ℕ). members (a.used / 2 ^ a.first) u ≡ gathers (length ms) (λ v. members (get_or ms v 0)) u) (sym (signs-read m))
-            (used-half a.marks.now a.first a.used s.pre.1.1.1 u l),
+            subst (λ (ms : List ℕ). members (a.used / 2 ^ a.first) u ≡ gathers (length ms) (λ v. members (get_or ms v 0)) u) (sym (signs_read m))
+            (used_half a.marks.now a.first a.used s.pre.1.1.1 u l),
       ),
     )
 
@@ -104,15 +104,15 @@ returns-2 c =
     let s = start m.before.before.before in
     let a = s.args in
     let first = a.first in
-    let test : ℕ → ℕ → Set = λ turned u. matches wordBits (members turned u) (get_or a.masks.now u 0) (get_or a.values.now u 0) in
+    let test : ℕ → ℕ → Set = λ turned u. matches word_bits (members turned u) (get_or a.masks.now u 0) (get_or a.values.now u 0) in
     c.all-sparse.ensures
-    ∙ ap (λ (ms : List ℕ). all_below (length a.masks.now) (λ u. sparse a.samples.now ms (test (a.turned / 2 ^ first) u) u)) (signs-read m)
+    ∙ ap (λ (ms : List ℕ). all_below (length a.masks.now) (λ u. sparse a.samples.now ms (test (a.turned / 2 ^ first) u) u)) (signs_read m)
     ∙ all_same (length a.masks.now) (λ u. sparse a.samples.now (halves first a.marks.now) (test (a.turned / 2 ^ first) u) u)
     (admitted a.samples.now a.marks.now a.turned a.masks.now a.values.now first)
     (λ u l.
     sparse-half a.marks.now first a.samples.now (test (a.turned / 2 ^ first) u) u (omega (arith, s.pre.0.2))
-    ∙ ap (λ (b : Bool). sparse a.samples.now a.marks.now (matches wordBits b (get_or a.masks.now u 0) (get_or a.values.now u 0)) (first + u))
-    (shifted-members first a.turned u))
+    ∙ ap (λ (b : Bool). sparse a.samples.now a.marks.now (matches word_bits b (get_or a.masks.now u 0) (get_or a.values.now u 0)) (first + u))
+    (shifted_members first a.turned u))
 
 pub half-admitted-spec : {M : Type 1} → statement M
 half-admitted-spec =

@@ -5,10 +5,10 @@ use native.Mathlib.Omega.{arith}
 use mathlib.Core.Path.{◌≡◌, sym, ◌∙◌}
 use lib.ListN.{length, take, drop, length-drop}
 use lib.Seq.{length-take-le, take_all}
-use Rattle.session.proofs.Tables.{fits-gathered}
+use Rattle.session.proofs.Tables.{fits_gathered}
 use Rattle.section_tests.proofs.section_fits.Statement.{statement}
 use Rattle.section_tests.proofs.section_fits.Tie as tie
-use Rattle.bits.specs.Word.{setBits}
+use Rattle.bits.specs.Word.{set_bits}
 
 slice-aggregate-gathered : tie.Need-slice-aggregate-gathered
 slice-aggregate-gathered c = let s = c.before.before in sym (length-take-le s.args.used s.args.place.now s.requires.0)
@@ -44,7 +44,7 @@ returns c =
     let rest : take (length xs - used) (drop used xs) ≡ drop used xs =
     take_all (length xs - used) (drop used xs) (omega (arith, length-drop used xs)) in
     c.unions-fit.ensures
-    ∙ fits-gathered setBits s.args.k used inside.result unused.result xs s.requires.0 (search rules) inside.ensures
+    ∙ fits_gathered set_bits s.args.k used inside.result unused.result xs s.requires.0 (search rules) inside.ensures
     (rw rest at unused.ensures)
 
 pub section-fits-spec : {M : Type 1} → statement M

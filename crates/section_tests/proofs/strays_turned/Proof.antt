@@ -7,10 +7,10 @@ use mathlib.Core.Bool.{Bool, true, false, not, ◌&&◌, and-true, and-false, co
 use lib.Bits.{bit_and}
 use lib.Dec.{eqb}
 use lib.ListN.{length, get_or}
-use Rattle.bits.specs.Word.{members, halfBits}
+use Rattle.bits.specs.Word.{members, half_bits}
 use Rattle.bits.proofs.Words.{zero-members}
-use Rattle.bits.proofs.Gathers.{gathers, gather_none, gather-more}
-use Rattle.session.specs.Limits.{wordBits}
+use Rattle.bits.proofs.Gathers.{gathers, gather_none, gather_more}
+use Rattle.session.specs.Limits.{word_bits}
 use Rattle.session.specs.Trigger.{matches}
 use Rattle.session.proofs.Admission.{matches-inside}
 use Rattle.section_tests.proofs.Unadmitted.{stray}
@@ -19,7 +19,7 @@ use Rattle.section_tests.proofs.strays_turned.Tie as tie
 
 abbrev invariant-loop : tie.invariant-loop
 invariant-loop samples marks turn mask value all₀ v₀ all v =
-    (v ≤ length marks) × ((b : Bool) → turn ≡ cond b (2 ^ halfBits - 1) 0 → members all ≡ gathers v (stray samples marks (matches wordBits b mask value)))
+    (v ≤ length marks) × ((b : Bool) → turn ≡ cond b (2 ^ half_bits - 1) 0 → members all ≡ gathers v (stray samples marks (matches word_bits b mask value)))
 
 abbrev decreases-loop : tie.decreases-loop
 decreases-loop samples marks turn mask value all₀ v₀ all v = length marks - v
@@ -27,7 +27,7 @@ decreases-loop samples marks turn mask value all₀ v₀ all v = length marks - 
 loop-holds : tie.Need-loop-init invariant-loop decreases-loop
 loop-holds c =
     let a = c.before.before.args in
-    (omega arith, λ b e. gather_none (stray a.samples.now a.marks.now (matches wordBits b a.mask a.value)))
+    (omega arith, λ b e. gather_none (stray a.samples.now a.marks.now (matches word_bits b a.mask a.value)))
 
 mul-chosen-half : tie.Need-overflow-mul-chosen-half invariant-loop decreases-loop
 mul-chosen-half c = search rules
@@ -51,9 +51,9 @@ loop-less : tie.Need-loop-smaller invariant-loop decreases-loop
 loop-less c = search rules
 
 -- the members of a word that is picked by a test
-picked-members : (word : ℕ) (test : Bool) (u : ℕ) → members (cond test word 0) u ≡ (members word u && test)
-picked-members word true u = sym (and-true (members word u))
-picked-members word false u = zero-members u ∙ sym (and-false (members word u))
+picked_members : (word : ℕ) (test : Bool) (u : ℕ) → members (cond test word 0) u ≡ (members word u && test)
+picked_members word true u = sym (and-true (members word u))
+picked_members word false u = zero-members u ∙ sym (and-false (members word u))
 
 loop-again : tie.Need-loop-preserved invariant-loop decreases-loop
 loop-again c =
@@ -65,12 +65,12 @@ loop-again c =
     let off = not (eqb (bit_and sample a.mask) a.value) in (
       omega arith,
       λ b e.
-          gather-more (stray a.samples.now a.marks.now (matches wordBits b a.mask a.value)) l.loop.all c.chosen-half.result l.loop.v (l.loop.invariant.1 b e)
+          gather_more (stray a.samples.now a.marks.now (matches word_bits b a.mask a.value)) l.loop.all c.chosen-half.result l.loop.v (l.loop.invariant.1 b e)
           (fun_ext
           (λ u.
           ap (λ (w : ℕ). members w u) (c.chosen-half.ensures b e)
-          ∙ picked-members word (cond b (not off) off) u
-          ∙ ap (λ (x : Bool). members word u && x) (matches-inside wordBits b a.mask a.value sample s.requires.0.1 s.requires.1))),
+          ∙ picked_members word (cond b (not off) off) u
+          ∙ ap (λ (x : Bool). members word u && x) (matches-inside word_bits b a.mask a.value sample s.requires.0.1 s.requires.1))),
     )
 
 returns : tie.Need-returns invariant-loop decreases-loop

@@ -4,7 +4,7 @@ use borrow.Author.Rules.{rules}
 use mathlib.Core.Path.{◌≡◌, ap, ◌∙◌}
 use mathlib.Core.Bool.{Bool, ◌&&◌}
 use lib.Dec.{eqb}
-use Rattle.bits.specs.Word.{within, setBits}
+use Rattle.bits.specs.Word.{within, set_bits}
 use Rattle.section_tests.proofs.unions_fit.Statement.{statement}
 use Rattle.section_tests.proofs.unions_fit.Tie as tie
 
@@ -17,10 +17,10 @@ subset-requires c κs = search rules
 -- both tests
 both : (c : tie.After-subset)
     → let a = c.before.before.args in
-    (c.subset.result && eqb a.unused 0) ≡ (within setBits a.inside (2 ^ a.k - 1) && eqb a.unused 0)
+    (c.subset.result && eqb a.unused 0) ≡ (within set_bits a.inside (2 ^ a.k - 1) && eqb a.unused 0)
 both c =
     let a = c.before.before.args in
-    ap (λ (t : Bool). t && eqb a.unused 0) (c.subset.ensures ∙ ap (within setBits a.inside) c.before.below.ensures.0)
+    ap (λ (t : Bool). t && eqb a.unused 0) (c.subset.ensures ∙ ap (within set_bits a.inside) c.before.below.ensures.0)
 
 returns : tie.Need-returns
 returns c = rw c.if1.true at (both c.before)

@@ -5,16 +5,16 @@ use native.Mathlib.Omega.{arith}
 use mathlib.Core.Path.{◌∙◌, ap, refl, sym}
 use mathlib.Core.List.{List}
 use lib.ListN.{length, get_or}
-use Rattle.session.specs.Trigger.{edgeNumber}
+use Rattle.session.specs.Trigger.{edge_number}
 use Rattle.session.specs.Layout.{table}
 use Rattle.session.proofs.Tables.{below-take}
 use Rattle.sections.proofs.Fills.{Filled, fill_start, fill_step, fill_end}
 use Rattle.sections.proofs.copy_edges.Statement.{statement}
 use Rattle.sections.proofs.copy_edges.Tie as tie
-use Rattle.session.specs.Limits.{maxNodes}
+use Rattle.session.specs.Limits.{max_nodes}
 
 abbrev number : List ℕ → List ℕ → ℕ → ℕ
-number starts ends j = edgeNumber (get_or starts j 0) (get_or ends j 0)
+number starts ends j = edge_number (get_or starts j 0) (get_or ends j 0)
 
 abbrev invariant-loop : tie.invariant-loop
 invariant-loop place₀ starts ends i₀ place i = Filled (number starts ends) place₀ place i
@@ -24,12 +24,12 @@ decreases-loop place₀ starts ends i₀ place i = length place₀ - i
 
 -- both nodes of an edge
 small : (c : tie.In-loop invariant-loop decreases-loop)
-    → (get_or c.before.before.args.starts.now c.before.loop.i 0 < maxNodes) × (get_or c.before.before.args.ends.now c.before.loop.i 0 < maxNodes)
+    → (get_or c.before.before.args.starts.now c.before.loop.i 0 < max_nodes) × (get_or c.before.before.args.ends.now c.before.loop.i 0 < max_nodes)
 small c =
     let s = c.before.before in
     let a = s.args in (
-      below-take maxNodes a.starts.now s.requires.0.0 c.before.loop.i (omega arith),
-      below-take maxNodes a.ends.now s.requires.0.1 c.before.loop.i (omega arith),
+      below-take max_nodes a.starts.now s.requires.0.0 c.before.loop.i (omega arith),
+      below-take max_nodes a.ends.now s.requires.0.1 c.before.loop.i (omega arith),
     )
 
 loop-holds : tie.Need-loop-init invariant-loop decreases-loop

@@ -5,7 +5,7 @@ use lib.ListN.{length}
 use lib.Seq.{length-take-le}
 use Rattle.session.specs.Layout.{numbered}
 use Rattle.session.proofs.Tables.{length-numbered}
-use Rattle.sections.proofs.Fills.{fill-parts}
+use Rattle.sections.proofs.Fills.{fill_parts}
 use Rattle.sections.proofs.fill_edges.Statement.{statement}
 use Rattle.sections.proofs.fill_edges.Tie as tie
 
@@ -44,7 +44,7 @@ returns c =
     let front = c.before.before.before.before.before.before in
     let s = front.before.before.before.before.before in
     let a = s.args in
-    fill-parts a.place.now (numbered a.starts.now a.ends.now) front.copy-edges.new.0 c.before.before.clear.new.0
+    fill_parts a.place.now (numbered a.starts.now a.ends.now) front.copy-edges.new.0 c.before.before.clear.new.0
     (length a.starts.now) _ (length-numbered a.starts.now a.ends.now) s.requires.1.1 front.copy-edges.ensures refl
     c.before.before.clear.ensures
 

@@ -3,7 +3,7 @@ use borrow.Author.Rules.{rules}
 use mathlib.Core.Path.{refl, sym}
 use lib.ListN.{length}
 use lib.Seq.{length-take-le}
-use Rattle.sections.proofs.Fills.{fill-parts}
+use Rattle.sections.proofs.Fills.{fill_parts}
 use Rattle.sections.proofs.fill_words.Statement.{statement}
 use Rattle.sections.proofs.fill_words.Tie as tie
 
@@ -40,7 +40,7 @@ returns : tie.Need-returns
 returns c =
     let front = c.before.before.before.before.before.before in
     let s = front.before.before.before.before in
-    fill-parts s.args.place.now s.args.source.now front.copy-words.new.0 c.before.before.clear.new.0 _ _ refl s.requires
+    fill_parts s.args.place.now s.args.source.now front.copy-words.new.0 c.before.before.clear.new.0 _ _ refl s.requires
     front.copy-words.ensures refl c.before.before.clear.ensures
 
 pub fill-words-spec : {M : Type 1} → statement M

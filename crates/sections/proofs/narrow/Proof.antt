@@ -10,11 +10,11 @@ use Rattle.session.specs.Layout.{table}
 use Rattle.sections.proofs.Fills.{Filled, fill_start, fill_step, fill_end}
 use Rattle.sections.proofs.narrow.Statement.{statement}
 use Rattle.sections.proofs.narrow.Tie as tie
-use Rattle.bits.specs.Word.{halfBits}
+use Rattle.bits.specs.Word.{half_bits}
 
 -- the half that is taken of a word
 abbrev half : List ℕ → ℕ → ℕ → ℕ
-half source from j = get_or source j 0 / 2 ^ from % 2 ^ halfBits
+half source from j = get_or source j 0 / 2 ^ from % 2 ^ half_bits
 
 abbrev invariant-loop : tie.invariant-loop
 invariant-loop place₀ source from i₀ place i = Filled (half source from) place₀ place i
@@ -37,7 +37,7 @@ shr-place c = search rules
 cast-place : tie.Need-overflow-cast-place invariant-loop decreases-loop
 cast-place c =
     let a = c.before.before.before.args in
-    let masked = and_mask (get_or a.source.now c.before.before.loop.i 0 / 2 ^ a.from) halfBits in
+    let masked = and_mask (get_or a.source.now c.before.before.loop.i 0 / 2 ^ a.from) half_bits in
     omega (arith, masked)
 
 mul-place-2 : tie.Need-overflow-mul-place-2 invariant-loop decreases-loop
@@ -56,8 +56,8 @@ loop-again : tie.Need-loop-preserved invariant-loop decreases-loop
 loop-again c =
     let a = c.before.before.before.args in
     let l = c.before.before.loop in
-    fill_step (half a.source.now a.from) a.place.now l.place l.i (bit_and (get_or a.source.now l.i 0 / 2 ^ a.from) (2 ^ halfBits - 1)) l.invariant (omega arith)
-    (and_mask (get_or a.source.now l.i 0 / 2 ^ a.from) halfBits)
+    fill_step (half a.source.now a.from) a.place.now l.place l.i (bit_and (get_or a.source.now l.i 0 / 2 ^ a.from) (2 ^ half_bits - 1)) l.invariant (omega arith)
+    (and_mask (get_or a.source.now l.i 0 / 2 ^ a.from) half_bits)
 
 same_length : tie.Need-same-length invariant-loop decreases-loop
 same_length c = search rules

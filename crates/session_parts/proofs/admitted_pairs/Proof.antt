@@ -19,7 +19,7 @@ admitted-requires c κs =
     let s = c.before.before.before.before.before.before in
     let f = layout-facts s.args.session.now s.requires.0 in
     rw (c.before.before.before.masks-of.ensures, c.before.before.values_of.ensures, c.before.samples-of.ensures)
-    ((f.trigger.values, f.trigger.few, f.graph.few, s.requires.2), (f.trigger.masks-fit, s.requires.3))
+    ((f.trigger.values, f.trigger.few, f.graph.few, s.requires.2), (f.trigger.masks_fit, s.requires.3))
 
 same_length : tie.Need-same-length
 same_length c = search rules

@@ -1,7 +1,7 @@
 -- The states that admit a node by the parts of the session.
 use borrow.Author.Rules.{rules}
 use Rattle.session.proofs.Decoded.{layout-facts}
-use Rattle.session.specs.Layout.{triggerOf}
+use Rattle.session.specs.Layout.{trigger_of}
 use Rattle.pair_tables.proofs.Tabling.{turned-below}
 use Rattle.session_parts.proofs.Admitted.{node-admitted}
 use Rattle.session_parts.proofs.admitting.Statement.{statement}
@@ -25,10 +25,10 @@ shared-slice-read-admitted-at c = rw c.before.before.before.samples-of.ensures c
 admitted-at-requires : tie.Need-admitted-at-requires
 admitted-at-requires c κs =
     let s = c.before.before.before.before.before in
-    let t = triggerOf s.args.session.now in
+    let t = trigger_of s.args.session.now in
     let f = (layout-facts s.args.session.now s.requires.0).trigger in
     rw (c.before.before.masks-of.ensures, c.before.values_of.ensures)
-    ((f.values, f.few, f.masks-fit), turned-below t.masks t.inverted s.args.turned s.requires.1)
+    ((f.values, f.few, f.masks_fit), turned-below t.masks t.inverted s.args.turned s.requires.1)
 
 returns : tie.Need-returns
 returns c =

@@ -1,12 +1,12 @@
 -- The part that the count tells.
 use native.Mathlib.Omega.{arith}
 use Rattle.session.specs.Layout.{graph_of}
-use Rattle.session.proofs.Decoded.{Bounded, layout-limits}
+use Rattle.session.proofs.Decoded.{Bounded, layout_limits}
 use Rattle.session_parts.proofs.samples_of.Statement.{statement}
 use Rattle.session_parts.proofs.samples_of.Tie as tie
 
 abbrev bounded : (c : tie.After-shared-slice-known2) → Bounded c.before.before.args.session.now
-bounded c = layout-limits c.before.before.args.session.now c.before.before.requires
+bounded c = layout_limits c.before.before.args.session.now c.before.before.requires
 
 shared-slice-read-part-of : tie.Need-shared-slice-read-part-of
 shared-slice-read-part-of c = omega (arith, bounded c)

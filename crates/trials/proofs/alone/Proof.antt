@@ -1,10 +1,10 @@
 -- `alone` meets its contract: none of the first k edges leads to the start from a node with a fresh state of the word.
 use Prim.Native.Nat.{ℕ, ◌-◌, ◌/◌, ◌%◌, ◌<◌, ◌≤◌}
-use Rattle.trials.proofs.Lonely.{aloneTo, alone-none, alone-more, alone-found, alone-all}
-use Rattle.editing.specs.Steps.{freshAmong}
-use Rattle.refinement.proofs.Systems.{held-sound}
+use Rattle.trials.proofs.Lonely.{alone_to, alone-none, alone-more, alone-found, alone-all}
+use Rattle.editing.specs.Steps.{fresh_among}
+use Rattle.refinement.proofs.Systems.{held_sound}
 use Rattle.session.proofs.Decoded.{layout-facts}
-use Rattle.session.specs.Layout.{triggerOf, inLayout}
+use Rattle.session.specs.Layout.{trigger_of, in_layout}
 use borrow.Author.Rules.{rules}
 use lib.ListN.{length, get_or}
 use mathlib.Core.Bool.{true, false}
@@ -14,10 +14,10 @@ use mathlib.Core.Path.{◌≡◌, refl, sym, ap, subst, ◌∙◌}
 use native.Mathlib.Omega.{arith}
 use Rattle.trials.proofs.alone.Statement.{statement}
 use Rattle.trials.proofs.alone.Tie as tie
-use Rattle.session.specs.Limits.{maxNodes}
+use Rattle.session.specs.Limits.{max_nodes}
 
 abbrev invariant-loop : tie.invariant-loop
-invariant-loop session start word edges turned k₀ k = (k ≤ length edges) × ((h : inLayout session ≡ true) → aloneTo session h start word k ≡ true)
+invariant-loop session start word edges turned k₀ k = (k ≤ length edges) × ((h : in_layout session ≡ true) → alone_to session h start word k ≡ true)
 
 abbrev decreases-loop : tie.decreases-loop
 decreases-loop session start word edges turned k₀ k = length edges - k
@@ -47,7 +47,7 @@ fresh-among-requires c κs =
     let s = start h in
     let xs = s.args.session.now in
     let k = h.loop.k in
-    (s.pre, h.before.turned-of.ensures, omega (arith, (held-sound xs s.pre (triggerOf xs).links _ refl h.before.before.edges-of.ensures).starts k c.before.before.loop-test.true, (layout-facts xs s.pre).counts.1))
+    (s.pre, h.before.turned-of.ensures, omega (arith, (held_sound xs s.pre (trigger_of xs).links _ refl h.before.before.edges-of.ensures).starts k c.before.before.loop-test.true, (layout-facts xs s.pre).counts.1))
 
 returns : tie.Need-returns invariant-loop decreases-loop
 returns c =
@@ -57,8 +57,8 @@ returns c =
     let k = h.loop.k in
     let is = h.before.before.edges-of.ensures in
     alone-found a.session.now s.pre a.start a.word k (subst (λ (es : List ℕ). k < length es) is c.before.before.before.before.loop-test.true)
-    (subst (λ (es : List ℕ). get_or es k 0 % maxNodes ≡ a.start) is c.before.before.if1.true)
-    (subst (λ (es : List ℕ). freshAmong a.session.now a.word (get_or es k 0 / maxNodes) ≡ true) is (sym c.before.fresh-among.ensures ∙ c.if2.true))
+    (subst (λ (es : List ℕ). get_or es k 0 % max_nodes ≡ a.start) is c.before.before.if1.true)
+    (subst (λ (es : List ℕ). fresh_among a.session.now a.word (get_or es k 0 / max_nodes) ≡ true) is (sym c.before.fresh-among.ensures ∙ c.if2.true))
 
 add-k : tie.Need-overflow-add-k invariant-loop decreases-loop
 add-k c = search rules
@@ -78,8 +78,8 @@ loop-again c =
           alone-more a.session.now i a.start a.word k (h.loop.invariant.1 i)
           (λ at-end.
           ⊎_elim
-          (λ w. subst (λ (es : List ℕ). freshAmong a.session.now a.word (get_or es k 0 / maxNodes) ≡ false) is (sym w.1.ensures ∙ w.2.left))
-          (λ w. absurd (w.left (subst (λ (es : List ℕ). get_or es k 0 % maxNodes ≡ a.start) (sym is) at-end)))
+          (λ w. subst (λ (es : List ℕ). fresh_among a.session.now a.word (get_or es k 0 / max_nodes) ≡ false) is (sym w.1.ensures ∙ w.2.left))
+          (λ w. absurd (w.left (subst (λ (es : List ℕ). get_or es k 0 % max_nodes ≡ a.start) (sym is) at-end)))
           c.if1.branch),
     )
 

@@ -7,7 +7,7 @@ use Rattle.simulation.proofs.Sets.{clash}
 use Rattle.bits.specs.Word.{members}
 use Rattle.bits.proofs.Words.{zero-members}
 use Rattle.session.specs.Trigger.{states}
-use Rattle.session.specs.Layout.{triggerOf}
+use Rattle.session.specs.Layout.{trigger_of}
 use Rattle.pair_tables.specs.Tables.{marked}
 use Rattle.session_parts.proofs.Parts.{marks-long, held-marks}
 use borrow.Author.Rules.{rules}
@@ -29,7 +29,7 @@ same_length c = search rules
 returns : tie.Need-returns
 returns c =
     let s = c.before.before.before.before.before.before.before in
-    let n = states (triggerOf s.args.session.now) in
+    let n = states (trigger_of s.args.session.now) in
     rw (ap marked c.before.before.before.before.marks-of.ensures ∙ held-marks s.args.session.now s.requires.0.0) at
     (c.before.before.refine-at.ensures.exact
     (λ p m away. clash m (ap (λ (w : ℕ). members w (p % n)) (s.requires.1 (p / n) away) ∙ zero-members (p % n))))

@@ -17,8 +17,8 @@ admitting-requires c κs = search rules
 mul-difference : tie.Need-overflow-mul-difference
 mul-difference c = search rules
 
-shared-slice-read-difference : tie.Need-shared-slice-read-difference
-shared-slice-read-difference c =
+shared_slice_read_difference : tie.Need-shared-slice-read-difference
+shared_slice_read_difference c =
     let s = c.before.before.before.before in
     let xs = s.args.session.now in
     rw c.before.before.marks-of.ensures (omega (arith, marks-long xs s.requires.0, s.requires.2, (layout-facts xs s.requires.0).graph.few))
@@ -44,7 +44,7 @@ fresh-among-spec =
     marks-of-requires
     admitting-requires
     mul-difference
-    shared-slice-read-difference
+    shared_slice_read_difference
     difference-requires
     meet-requires
     returns)

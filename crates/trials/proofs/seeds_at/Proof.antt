@@ -3,7 +3,7 @@ use borrow.Author.Rules.{rules}
 use native.Mathlib.Omega.{arith}
 use Rattle.session.proofs.Decoded.{layout-facts}
 use Rattle.session_parts.proofs.Parts.{marks-long}
-use Rattle.trials.proofs.Trying.{seeds-are}
+use Rattle.trials.proofs.Trying.{seeds_are}
 use Rattle.trials.proofs.seeds_at.Statement.{statement}
 use Rattle.trials.proofs.seeds_at.Tie as tie
 
@@ -31,8 +31,8 @@ admitting-requires-2 c κs = search rules
 mul-difference : tie.Need-overflow-mul-difference
 mul-difference c = search rules
 
-shared-slice-read-difference : tie.Need-shared-slice-read-difference
-shared-slice-read-difference c =
+shared_slice_read_difference : tie.Need-shared-slice-read-difference
+shared_slice_read_difference c =
     let s = c.before.before.before.before.before.before.before.before in
     let xs = s.args.session.now in
     rw c.before.before.before.before.before.before.marks-of.ensures (omega (arith, marks-long xs s.requires.0, s.requires.1, (layout-facts xs s.requires.0).graph.few))
@@ -45,7 +45,7 @@ returns c =
     let end = c.before.before.before.before.before in
     let s = end.before.before.before.before in
     let links = c.before.before.before.before in
-    seeds-are s.args.session.now s.requires.0 s.args.start s.args.end _ _ links.links-of.ensures end.before.before.marks-of.ensures
+    seeds_are s.args.session.now s.requires.0 s.args.start s.args.end _ _ links.links-of.ensures end.before.before.marks-of.ensures
     end.admitting.result c.before.before.before.linking.result c.before.before.admitting2.result c.difference.result
     end.admitting.ensures c.before.before.before.linking.ensures c.before.before.admitting2.ensures c.difference.ensures
 
@@ -60,6 +60,6 @@ seeds-at-spec =
     linking-requires
     admitting-requires-2
     mul-difference
-    shared-slice-read-difference
+    shared_slice_read_difference
     difference-requires
     returns)

@@ -3,20 +3,20 @@ use borrow.Author.Rules.{rules}
 use native.Mathlib.Omega.{arith}
 use mathlib.Core.Path.{refl, ◌∙◌}
 use lib.ListN.{length-set, replicate}
-use Rattle.session.proofs.Decoded.{Bounded, LayoutFacts, layout-limits, layout-facts}
+use Rattle.session.proofs.Decoded.{Bounded, LayoutFacts, layout_limits, layout-facts}
 use Rattle.pair_tables.proofs.Zeros.{zeros}
-use Rattle.refinement.proofs.Systems.{held-sound}
+use Rattle.refinement.proofs.Systems.{held_sound}
 use Rattle.trials.proofs.Trying.{seeded, seeds-fit, trial-held}
 use Rattle.trials.proofs.try_pairs.Statement.{statement}
 use Rattle.trials.proofs.try_pairs.Tie as tie
-use Rattle.session.specs.Limits.{maxNodes}
-use Rattle.worklist.specs.Waiting.{waitingWords}
+use Rattle.session.specs.Limits.{max_nodes}
+use Rattle.worklist.specs.Waiting.{waiting_words}
 
 abbrev start : tie.After-shared-slice-known4 → tie.Start
 start c = c.before.before.before.before.before
 
 abbrev bounded : (c : tie.After-shared-slice-known4) → Bounded (start c).args.session.now
-bounded c = layout-limits (start c).args.session.now (start c).requires.0.0
+bounded c = layout_limits (start c).args.session.now (start c).requires.0.0
 
 abbrev facts : (s : tie.Start) → LayoutFacts s.args.session.now
 facts s = layout-facts s.args.session.now s.requires.0.0
@@ -31,7 +31,7 @@ slice-aggregate-fresh-pairs : tie.Need-slice-aggregate-fresh-pairs
 slice-aggregate-fresh-pairs c = search rules
 
 fresh-pairs-requires : tie.Need-fresh-pairs-requires
-fresh-pairs-requires c κs = ((start c.before).requires.0.0, refl, zeros maxNodes)
+fresh-pairs-requires c κs = ((start c.before).requires.0.0, refl, zeros max_nodes)
 
 slice-aggregate-put-in : tie.Need-slice-aggregate-put-in
 slice-aggregate-put-in c = search rules
@@ -65,13 +65,13 @@ grow-requires c κs =
     let fresh = c.before.before.before.before.before.before.before.before.before.fresh-pairs.ensures in (
       (fresh.long, length-set a.table.now a.start a.seeds ∙ s.pre.0.2, c.before.before.before.before.before.before.put_in.ensures.0),
       (
-        (held-sound a.session.now s.pre.0.0 _ _ c.before.before.before.before.links-of.ensures c.before.before.before.edges-of.ensures, rw c.before.before.before.edges-of.ensures s.pre.1.0),
+        (held_sound a.session.now s.pre.0.0 _ _ c.before.before.before.before.links-of.ensures c.before.before.before.edges-of.ensures, rw c.before.before.before.edges-of.ensures s.pre.1.0),
         (
           λ u v e.
               let i = fresh.inside u v e in
               (rw c.before.before.before.before.links-of.ensures (omega (arith, i.0, f.trigger.links)), omega (arith, i.1, f.counts.1)),
           seeds-fit a.session.now s.pre.0.0 a.start s.pre.1.1.0 a.seeds s.pre.0.1 s.pre.1.1.1 a.table.now s.pre.0.2 s.pre.0.3
-              c.before.before.before.before.before.before.before.before.before.fresh-pairs.new.1.0 (replicate waitingWords 0) c.before.before.before.before.before.before.put_in.new.0 fresh c.before.before.before.before.before.before.put_in.ensures.1,
+              c.before.before.before.before.before.before.before.before.before.fresh-pairs.new.1.0 (replicate waiting_words 0) c.before.before.before.before.before.before.put_in.new.0 fresh c.before.before.before.before.before.before.put_in.ensures.1,
         ),
       ),
     )

@@ -7,14 +7,14 @@ use mathlib.Core.Path.{◌≡◌, refl, ◌∙◌}
 use lib.ListN.{length, take}
 use Rattle.promises.specs.Rules.{verdict}
 use Rattle.frames.specs.Machine.{memory}
-use Rattle.frames.specs.Blocks.{inputRules, Leads}
-use Rattle.frames.proofs.Inputs.{leads-none, leads-then}
+use Rattle.frames.specs.Blocks.{input_rules, Leads}
+use Rattle.frames.proofs.Inputs.{leads-none, leads_then}
 use Rattle.trigger.proofs.answer_blocks.Statement.{statement}
 use Rattle.trigger.proofs.answer_blocks.Tie as tie
 
 abbrev invariant-loop : tie.invariant-loop
 invariant-loop counts₀ words₀ session₀ changes₀ front₀ block₀ out₀ begun₀ turns₀ counts words session changes front block out begun turns =
-    (verdict (inputRules (memory counts words session changes out) front) ≡ 0) × (length counts ≡ length counts₀) × (length words ≡ length words₀)
+    (verdict (input_rules (memory counts words session changes out) front) ≡ 0) × (length counts ≡ length counts₀) × (length words ≡ length words₀)
     × (length session ≡ length session₀) × (length changes ≡ length changes₀) × (length front ≡ length front₀) × (length block ≡ length block₀)
     × (length out ≡ length out₀)
     × (begun.written ≡ true → (bytes : List ℕ) × (output : List ℕ) × Leads (memory counts₀ words₀ session₀ changes₀ out₀) [] bytes output (memory counts words session changes out) (take begun.used front))
@@ -82,7 +82,7 @@ loop-again c =
           let read = take e.before.before.before.before.before.before.before.before.before.count.result e.before.before.before.before.before.before.before.before.before.before.before.before.before.read.new.1.0 in (
             l.0 ++ read,
             l.1 ++ n.0,
-            leads-then (memory a.counts.now a.words.now a.session.now a.changes.now a.out.now) [] l.0 l.1
+            leads_then (memory a.counts.now a.words.now a.session.now a.changes.now a.out.now) [] l.0 l.1
                 (memory h.counts h.words h.session h.changes h.out) (take h.begun.used h.front) read n.0
                 (memory t.0 t.1.0 t.1.1.0 t.1.1.1.0 t.1.1.1.1.1.1.1.0) (take e.answer-whole.result.used t.1.1.1.1.0)
                 l.2 n.1,

@@ -9,7 +9,7 @@ use lib.Seq.{length-take-le}
 use Rattle.simulation.proofs.Sets.{clash}
 use Rattle.promises.specs.Rules.{verdict}
 use Rattle.frames.specs.Machine.{Memory, memory}
-use Rattle.frames.specs.Blocks.{inputRules, BlockTaken}
+use Rattle.frames.specs.Blocks.{input_rules, BlockTaken}
 use Rattle.frames.proofs.Inputs.{Within, within-start, within_step, within_end}
 use Rattle.frames.proofs.Passing.{block_at, block_goes, block_written, block-passed}
 use Rattle.trigger.proofs.answer_whole.Statement.{statement}
@@ -17,7 +17,7 @@ use Rattle.trigger.proofs.answer_whole.Tie as tie
 
 abbrev invariant-loop : tie.invariant-loop
 invariant-loop counts₀ words₀ session₀ changes₀ front₀ begun block out₀ at₀ line₀ written₀ counts words session changes front out at line written =
-    (verdict (inputRules (memory counts words session changes out) front) ≡ 0) × (length counts ≡ length counts₀) × (length words ≡ length words₀)
+    (verdict (input_rules (memory counts words session changes out) front) ≡ 0) × (length counts ≡ length counts₀) × (length words ≡ length words₀)
     × (length session ≡ length session₀) × (length changes ≡ length changes₀) × (length front ≡ length front₀) × (length out ≡ length out₀)
     × (at ≤ length block)
     × Within (memory counts₀ words₀ session₀ changes₀ out₀) (take begun front₀) block (memory counts words session changes out) (take line front) at

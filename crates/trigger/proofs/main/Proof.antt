@@ -5,9 +5,9 @@ use native.Mathlib.Omega.{arith}
 use mathlib.Core.Path.{refl, sym, subst}
 use lib.IntN.{pos}
 use lib.ListN.{length, replicate, length-replicate}
-use Rattle.frames.specs.Lines.{frontSize}
-use Rattle.frames.specs.Machine.{countsSize, wordsSize, outputSize}
-use Rattle.session.specs.Limits.{fixedSize, maxChanges}
+use Rattle.frames.specs.Lines.{front_size}
+use Rattle.frames.specs.Machine.{counts_size, words_size, output_size}
+use Rattle.session.specs.Limits.{fixed_size, max_changes}
 use Rattle.trigger.proofs.main.Statement.{statement}
 use Rattle.trigger.proofs.main.Tie as tie
 
@@ -40,22 +40,22 @@ abbrev lent : ℕ
 lent = 524288
 
 -- of a list of n zeros nothing is computed but its length: there are too many
-enough : (n : ℕ) → outputSize ≤ n → outputSize ≤ length (replicate {A = ℕ} n 0)
-enough n l = subst (λ (k : ℕ). outputSize ≤ k) (sym (length-replicate {A = ℕ} n 0)) l
+enough : (n : ℕ) → output_size ≤ n → output_size ≤ length (replicate {A = ℕ} n 0)
+enough n l = subst (λ (k : ℕ). output_size ≤ k) (sym (length-replicate {A = ℕ} n 0)) l
 
 answer-input-requires : tie.Need-answer-input-requires
 answer-input-requires c κs = (
   record {
-    counts = omega (arith, length-replicate {A = ℕ} countsSize 0);
-    words = omega (arith, length-replicate {A = ℕ} wordsSize 0);
-    session = omega (arith, length-replicate {A = ℕ} fixedSize 0);
+    counts = omega (arith, length-replicate {A = ℕ} counts_size 0);
+    words = omega (arith, length-replicate {A = ℕ} words_size 0);
+    session = omega (arith, length-replicate {A = ℕ} fixed_size 0);
     moment = refl;
     states = refl;
     nodes = refl;
   },
-  omega (arith, length-replicate maxChanges (pos 0)),
+  omega (arith, length-replicate max_changes (pos 0)),
   enough lent (omega arith),
-  omega (arith, length-replicate {A = ℕ} frontSize 0),
+  omega (arith, length-replicate {A = ℕ} front_size 0),
 )
 
 returns : tie.Need-returns

@@ -2,7 +2,7 @@
 use borrow.Author.Rules.{rules}
 use native.Mathlib.Omega.{arith}
 use mathlib.Core.Path.{ap}
-use Rattle.promises.specs.Answers.{toldOrder}
+use Rattle.promises.specs.Answers.{told_order}
 use Rattle.answer_numbers.proofs.Orders.{order-short, order-listed, order-refused}
 use Rattle.trigger_engine.proofs.trigger_order.Statement.{statement}
 use Rattle.trigger_engine.proofs.trigger_order.Tie as tie
@@ -36,13 +36,13 @@ same_length c = search rules
 returns-2 : tie.Need-returns-2
 returns-2 c =
     let o = c.before.before.before.before.before.before.before.before.before.order in
-    order-listed _ _ c.before.before.before.before.before.before.before.before.before.before.if1.false o.result o.ensures _ c.order-number.ensures _ _ (ap toldOrder c.before.before.before.before.before.before.enum_told.given.1)
+    order-listed _ _ c.before.before.before.before.before.before.before.before.before.before.if1.false o.result o.ensures _ c.order-number.ensures _ _ (ap told_order c.before.before.before.before.before.before.enum_told.given.1)
     c.before.before.before.fill-front.ensures
 
 returns-3 : tie.Need-returns-3
 returns-3 c =
     let o = c.before.before.before.before.order in
-    order-refused _ _ c.before.before.before.before.before.if1.false o.result o.ensures _ c.order-number2.ensures _ (ap toldOrder c.before.enum-told2.given.1)
+    order-refused _ _ c.before.before.before.before.before.if1.false o.result o.ensures _ c.order-number2.ensures _ (ap told_order c.before.enum-told2.given.1)
 
 pub trigger-order-spec : {M : Type 1} → statement M
 trigger-order-spec =

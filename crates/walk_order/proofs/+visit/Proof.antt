@@ -17,7 +17,7 @@ use Rattle.walk_order.proofs.Walks.{
   along-none,
   along-old,
   along-new,
-  along-falls,
+  along_falls,
   along-end,
   written-counted,
   ready-room,
@@ -58,14 +58,14 @@ visit-μ-loop links state word states w₀ i₀ w i = states - i
 visit-mul-word : (t : ℕ) → visit-lts.Need-overflow-mul-word (calls t) (visit-at t) visit.Post visit-Inv-loop visit-μ-loop
 visit-mul-word t c = search rules
 
-visit-shared-slice-read-word : (t : ℕ) → visit-lts.Need-shared-slice-read-word (calls t) (visit-at t) visit.Post visit-Inv-loop visit-μ-loop
-visit-shared-slice-read-word t c = search rules
+visit_shared_slice_read_word : (t : ℕ) → visit-lts.Need-shared-slice-read-word (calls t) (visit-at t) visit.Post visit-Inv-loop visit-μ-loop
+visit_shared_slice_read_word t c = search rules
 
-visit-cast-states : (t : ℕ) → visit-lts.Need-overflow-cast-states (calls t) (visit-at t) visit.Post visit-Inv-loop visit-μ-loop
-visit-cast-states t c = search rules
+visit_cast_states : (t : ℕ) → visit-lts.Need-overflow-cast-states (calls t) (visit-at t) visit.Post visit-Inv-loop visit-μ-loop
+visit_cast_states t c = search rules
 
-visit-written-requires : (t : ℕ) → visit-lts.Need-written-requires (calls t) (visit-at t) visit.Post visit-Inv-loop visit-μ-loop
-visit-written-requires t c κs =
+visit_written_requires : (t : ℕ) → visit-lts.Need-written-requires (calls t) (visit-at t) visit.Post visit-Inv-loop visit-μ-loop
+visit_written_requires t c κs =
     let r = c.before.before.requires.1 in
     (omega (arith, ready-room _ _ _ r), omega arith)
 
@@ -74,19 +74,19 @@ visit-loop-holds t c =
     let r = c.before.before.before.requires.1 in
     along-start _ _ _ (written-counted _ _ _ r _ c.written.ensures)
 
-visit-has-requires : (t : ℕ) → visit-lts.Need-has-requires (calls t) (visit-at t) visit.Post visit-Inv-loop visit-μ-loop
-visit-has-requires t c κs = search rules
+visit_has_requires : (t : ℕ) → visit-lts.Need-has-requires (calls t) (visit-at t) visit.Post visit-Inv-loop visit-μ-loop
+visit_has_requires t c κs = search rules
 
-visit-has-requires-2 : (t : ℕ) → visit-lts.Need-has-requires-2 (calls t) (visit-at t) visit.Post visit-Inv-loop visit-μ-loop
-visit-has-requires-2 t c κs = search rules
+visit_has_requires_2 : (t : ℕ) → visit-lts.Need-has-requires-2 (calls t) (visit-at t) visit.Post visit-Inv-loop visit-μ-loop
+visit_has_requires_2 t c κs = search rules
 
-visit-visit-requires : (t : ℕ) → visit-lts.Need-visit-requires (calls t) (visit-at t) visit.Post visit-Inv-loop visit-μ-loop
-visit-visit-requires t c κs =
+visit_visit_requires : (t : ℕ) → visit-lts.Need-visit-requires (calls t) (visit-at t) visit.Post visit-Inv-loop visit-μ-loop
+visit_visit_requires t c κs =
     let h = c.before.before.before.before in
     let g = h.before.loop.invariant in
     let s = h.before.before.before.before.before in
     let r = s.requires.1 in (
-      rw (← s.requires.0) (along-falls _ _ _ _ _ _ r h.before.before.written.ensures g),
+      rw (← s.requires.0) (along_falls _ _ _ _ _ _ r h.before.before.written.ensures g),
       record {
         inside = h.loop-test.true;
         few = r.few;
@@ -95,8 +95,8 @@ visit-visit-requires t c κs =
       },
     )
 
-visit-add-i : (t : ℕ) → visit-lts.Need-overflow-add-i (calls t) (visit-at t) visit.Post visit-Inv-loop visit-μ-loop
-visit-add-i t c = search rules
+visit_add_i : (t : ℕ) → visit-lts.Need-overflow-add-i (calls t) (visit-at t) visit.Post visit-Inv-loop visit-μ-loop
+visit_add_i t c = search rules
 
 visit-loop-less : (t : ℕ) → visit-lts.Need-loop-smaller (calls t) (visit-at t) visit.Post visit-Inv-loop visit-μ-loop
 visit-loop-less t c = search rules
@@ -114,8 +114,8 @@ visit-loop-again t c =
     (λ w. rw w.1 (along-none _ _ _ _ _ m g (link ∙ w.0.left))))
     c.if1.branch
 
-visit-returns : (t : ℕ) → visit-lts.Need-returns (calls t) (visit-at t) visit.Post visit-Inv-loop visit-μ-loop
-visit-returns t c =
+visit_returns : (t : ℕ) → visit-lts.Need-returns (calls t) (visit-at t) visit.Post visit-Inv-loop visit-μ-loop
+visit_returns t c =
     let h = c.before in
     let s = h.before.before.before.before in
     along-end _ _ _ _ _ _ s.requires.1 h.before.written.ensures h.loop.invariant c.loop-test.false
@@ -127,14 +127,14 @@ pub +visit-spec : {M : Type 1} → statement M
     visit-Inv-loop
     visit-μ-loop
     (visit-mul-word t)
-    (visit-shared-slice-read-word t)
-    (visit-cast-states t)
-    (visit-written-requires t)
+    (visit_shared_slice_read_word t)
+    (visit_cast_states t)
+    (visit_written_requires t)
     (visit-loop-holds t)
-    (visit-has-requires t)
-    (visit-has-requires-2 t)
-    (visit-visit-requires t)
-    (visit-add-i t)
+    (visit_has_requires t)
+    (visit_has_requires_2 t)
+    (visit_visit_requires t)
+    (visit_add_i t)
     (visit-loop-less t)
     (visit-loop-again t)
-    (visit-returns t)
+    (visit_returns t)

@@ -8,7 +8,7 @@ use mathlib.Core.Bool.{false}
 use mathlib.Core.Logic.{⊎_elim}
 use Rattle.bits.specs.Word.{members}
 use Rattle.walk_order.specs.Walks.{Ready}
-use Rattle.walk_order.proofs.Walks.{Following, following-start, following-old, following-new, ready-room}
+use Rattle.walk_order.proofs.Walks.{Following, following_start, following_old, following_new, ready-room}
 use Rattle.walk_order.proofs.followed.Statement.{statement}
 use Rattle.walk_order.proofs.followed.Tie as tie
 
@@ -19,7 +19,7 @@ abbrev decreases-loop : tie.decreases-loop
 decreases-loop states w₀ i₀ w i = states - i
 
 loop-holds : tie.Need-loop-init invariant-loop decreases-loop
-loop-holds c = following-start _ _ c.requires.1
+loop-holds c = following_start _ _ c.requires.1
 
 -- a state that is not visited can be written
 abbrev Head : Type 0
@@ -56,8 +56,8 @@ loop-again c =
     let m = h.loop-test.true in
     let seen = sym c.before.has.ensures in
     ⊎_elim
-    (λ w. rw w.2 (following-new _ _ _ _ m g _ (ready h (seen ∙ not-true _ w.0.taken)) w.1.ensures))
-    (λ w. rw w.1 (following-old _ _ _ _ m g (seen ∙ not-false _ w.0.left)))
+    (λ w. rw w.2 (following_new _ _ _ _ m g _ (ready h (seen ∙ not-true _ w.0.taken)) w.1.ensures))
+    (λ w. rw w.1 (following_old _ _ _ _ m g (seen ∙ not-false _ w.0.left)))
     c.if1.branch
 
 returns : tie.Need-returns invariant-loop decreases-loop

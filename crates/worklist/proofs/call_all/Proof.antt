@@ -4,17 +4,17 @@ use borrow.Author.Rules.{rules}
 use native.Mathlib.Omega.{arith}
 use mathlib.Core.Path.{◌≡◌, ap, ◌∙◌}
 use lib.ListN.{length, length-set}
-use Rattle.worklist.specs.Waiting.{waits, waitingWords}
+use Rattle.worklist.specs.Waiting.{waits, waiting_words}
 use Rattle.worklist.proofs.Occupied.{called, called-none, called-step, called-all}
 use Rattle.worklist.proofs.call_all.Statement.{statement}
 use Rattle.worklist.proofs.call_all.Tie as tie
-use Rattle.bits.specs.Word.{setBits}
+use Rattle.bits.specs.Word.{set_bits}
 
 abbrev invariant-loop : tie.invariant-loop
-invariant-loop table waiting₀ i₀ waiting i = (i ≤ waitingWords) × (length waiting ≡ waitingWords) × ((v : ℕ) → waits waiting v ≡ called waiting₀ table i v)
+invariant-loop table waiting₀ i₀ waiting i = (i ≤ waiting_words) × (length waiting ≡ waiting_words) × ((v : ℕ) → waits waiting v ≡ called waiting₀ table i v)
 
 abbrev decreases-loop : tie.decreases-loop
-decreases-loop table waiting₀ i₀ waiting i = waitingWords - i
+decreases-loop table waiting₀ i₀ waiting i = waiting_words - i
 
 loop-holds : tie.Need-loop-init invariant-loop decreases-loop
 loop-holds c = let s = c.before.before in (search rules, s.requires.1, called-none s.args.waiting.now s.args.table.now)
@@ -67,7 +67,7 @@ loop-again c =
     let l = c.before.before.before.before.before.loop in (
       search rules,
       length-set l.waiting l.i c.united.result ∙ l.invariant.1,
-      called-step a.waiting.now a.table.now l.i l.waiting l.invariant.2 (l.i * setBits + setBits - l.i * setBits) c.before.held-among.result c.united.result
+      called-step a.waiting.now a.table.now l.i l.waiting l.invariant.2 (l.i * set_bits + set_bits - l.i * set_bits) c.before.held-among.result c.united.result
           (omega arith) (omega (arith, l.invariant.1)) c.before.held-among.ensures c.united.ensures,
     )
 
@@ -79,7 +79,7 @@ returns c =
     let s = c.before.before.before.before in
     let a = s.args in
     let l = c.before.loop in
-    let end : l.i ≡ waitingWords = omega arith in (
+    let end : l.i ≡ waiting_words = omega arith in (
       l.invariant.1,
       λ v. l.invariant.2 v ∙ ap (λ (i : ℕ). called a.waiting.now a.table.now i v) end ∙ called-all a.waiting.now a.table.now s.requires.0 v,
     )

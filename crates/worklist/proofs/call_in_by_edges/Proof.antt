@@ -1,8 +1,8 @@
 -- `call_in_by_edges` meets its contract: the predecessors by the first k edges have been called in.
 use Prim.Native.Nat.{ℕ, ◌-◌, ◌≤◌}
 use Rattle.bits.specs.Word.{overlaps}
-use Rattle.worklist.proofs.CalledIn.{leadsTo, leads-none, leads-more, leads-all}
-use Rattle.worklist.specs.Waiting.{waits, waitingWords}
+use Rattle.worklist.proofs.CalledIn.{leads_to, leads-none, leads-more, leads-all}
+use Rattle.worklist.specs.Waiting.{waits, waiting_words}
 use Rattle.session.proofs.Tables.{below-take}
 use Rattle.simulation.specs.Sets.{Set}
 use borrow.Author.Rules.{rules}
@@ -12,10 +12,10 @@ use mathlib.Core.Path.{◌≡◌, ap, fun_ext, ◌∙◌}
 use native.Mathlib.Omega.{arith}
 use Rattle.worklist.proofs.call_in_by_edges.Statement.{statement}
 use Rattle.worklist.proofs.call_in_by_edges.Tie as tie
-use Rattle.session.specs.Limits.{edgeNumbers}
+use Rattle.session.specs.Limits.{edge_numbers}
 
 abbrev invariant-loop : tie.invariant-loop
-invariant-loop waiting₀ edges node table word k₀ waiting k = (k ≤ length edges) × (length waiting ≡ waitingWords) × (waits waiting ≡ (λ w. waits waiting₀ w || (leadsTo edges (λ x. overlaps (get_or table x 0) word) node k w && overlaps (get_or table w 0) word)))
+invariant-loop waiting₀ edges node table word k₀ waiting k = (k ≤ length edges) × (length waiting ≡ waiting_words) × (waits waiting ≡ (λ w. waits waiting₀ w || (leads_to edges (λ x. overlaps (get_or table x 0) word) node k w && overlaps (get_or table w 0) word)))
 
 abbrev decreases-loop : tie.decreases-loop
 decreases-loop waiting₀ edges node table word k₀ waiting k = length edges - k
@@ -33,7 +33,7 @@ call-one-requires : tie.Need-call-one-requires invariant-loop decreases-loop
 call-one-requires c κs =
     let h = c.before.before.before in
     let s = h.before.before.before.before in
-    (h.loop.invariant.1, below-take edgeNumbers s.args.edges.now s.requires.1 h.loop.k c.before.before.loop-test.true, s.requires.0.3)
+    (h.loop.invariant.1, below-take edge_numbers s.args.edges.now s.requires.1 h.loop.k c.before.before.loop-test.true, s.requires.0.3)
 
 add-k : tie.Need-overflow-add-k invariant-loop decreases-loop
 add-k c = search rules
@@ -65,7 +65,7 @@ returns c =
           ∙ fun_ext
           (λ w.
           ap (λ (b : Bool). waits a.waiting.now w || (b && P w))
-          (ap (λ (n : ℕ). leadsTo a.edges.now P a.node n w) (omega (arith, h.loop.invariant.0, c.loop-test.false)) ∙ leads-all a.edges.now P a.node w)),
+          (ap (λ (n : ℕ). leads_to a.edges.now P a.node n w) (omega (arith, h.loop.invariant.0, c.loop-test.false)) ∙ leads-all a.edges.now P a.node w)),
     )
 
 pub call-in-by-edges-spec : {M : Type 1} → statement M

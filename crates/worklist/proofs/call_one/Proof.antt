@@ -1,6 +1,6 @@
 -- `call_one` meets its contract: the start is put in where the edge ends at the node and the table passes.
 use Rattle.bits.specs.Word.{overlaps}
-use Rattle.worklist.proofs.CalledIn.{one_in, one_out, ends-elsewhere, start-fails}
+use Rattle.worklist.proofs.CalledIn.{one_in, one_out, ends_elsewhere, start_fails}
 use Rattle.simulation.specs.Sets.{Set}
 use borrow.Author.Rules.{rules}
 use lib.ListN.{get_or}
@@ -46,14 +46,14 @@ returns-2 c =
     let s = c.before.before.before.before.before.before in
     let a = s.args in
     let P = test s in
-    (s.requires.0, one_out a.edge a.node P a.waiting.now (start-fails a.edge a.node P a.waiting.now (sym c.before.meet.ensures ∙ c.if2.false)))
+    (s.requires.0, one_out a.edge a.node P a.waiting.now (start_fails a.edge a.node P a.waiting.now (sym c.before.meet.ensures ∙ c.if2.false)))
 
 returns-3 : tie.Need-returns-3
 returns-3 c =
     let s = c.before.before.before in
     let a = s.args in
     let P = test s in
-    (s.requires.0, one_out a.edge a.node P a.waiting.now (ends-elsewhere a.edge a.node P a.waiting.now c.if1.false))
+    (s.requires.0, one_out a.edge a.node P a.waiting.now (ends_elsewhere a.edge a.node P a.waiting.now c.if1.false))
 
 pub call-one-spec : {M : Type 1} → statement M
 call-one-spec =

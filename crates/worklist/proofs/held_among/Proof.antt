@@ -4,7 +4,7 @@ use borrow.Author.Rules.{rules}
 use native.Mathlib.Omega.{arith}
 use mathlib.Core.Path.{◌≡◌, refl, ap, fun_ext, ◌∙◌}
 use Rattle.simulation.specs.Sets.{none, Set}
-use Rattle.bits.specs.Word.{members, setBits}
+use Rattle.bits.specs.Word.{members, set_bits}
 use Rattle.bits.proofs.Words.{zero-members}
 use Rattle.simulation.proofs.Gains.{gained, gained-none, gained-all}
 use Rattle.worklist.proofs.Occupied.{occupied, none-past, held-step}
@@ -12,10 +12,10 @@ use Rattle.worklist.proofs.held_among.Statement.{statement}
 use Rattle.worklist.proofs.held_among.Tie as tie
 
 abbrev invariant-loop : tie.invariant-loop
-invariant-loop part all₀ k₀ all k = (k ≤ setBits) × (members all ≡ gained none (occupied part) k)
+invariant-loop part all₀ k₀ all k = (k ≤ set_bits) × (members all ≡ gained none (occupied part) k)
 
 abbrev decreases-loop : tie.decreases-loop
-decreases-loop part all₀ k₀ all k = setBits - k
+decreases-loop part all₀ k₀ all k = set_bits - k
 
 loop-holds : tie.Need-loop-init invariant-loop decreases-loop
 loop-holds c = (search rules, fun_ext zero-members ∙ gained-none none (occupied c.before.args.part.now))
@@ -55,10 +55,10 @@ returns c =
     let s = c.before.before.before in
     let l = c.before.loop in
     let P : Set = occupied s.args.part.now in
-    let end : l.k ≡ setBits = omega (arith, s.requires) in
+    let end : l.k ≡ set_bits = omega (arith, s.requires) in
     λ k.
     ap (λ (X : Set). X k) (l.invariant.1 ∙ ap (gained none P) end)
-    ∙ gained-all none P setBits (λ w h. none-past s.args.part.now w (omega (arith, s.requires))) k
+    ∙ gained-all none P set_bits (λ w h. none-past s.args.part.now w (omega (arith, s.requires))) k
 
 pub held-among-spec : {M : Type 1} → statement M
 held-among-spec =

@@ -3,17 +3,17 @@ use Prim.Native.Nat.{◌-◌, ◌*◌, ◌≤◌}
 use borrow.Author.Rules.{rules}
 use native.Mathlib.Omega.{arith}
 use mathlib.Core.Path.{sym}
-use Rattle.worklist.proofs.Waits.{Idle, idle-more, waits-lowest, waits-none}
+use Rattle.worklist.proofs.Waits.{Idle, idle_more, waits-lowest, waits-none}
 use Rattle.worklist.proofs.lowest_in.Statement.{statement}
 use Rattle.worklist.proofs.lowest_in.Tie as tie
-use Rattle.bits.specs.Word.{setBits}
-use Rattle.worklist.specs.Waiting.{waitingWords}
+use Rattle.bits.specs.Word.{set_bits}
+use Rattle.worklist.specs.Waiting.{waiting_words}
 
 abbrev invariant-loop : tie.invariant-loop
-invariant-loop waiting i₀ i = (i ≤ waitingWords) × Idle waiting (i * setBits)
+invariant-loop waiting i₀ i = (i ≤ waiting_words) × Idle waiting (i * set_bits)
 
 abbrev decreases-loop : tie.decreases-loop
-decreases-loop waiting i₀ i = waitingWords - i
+decreases-loop waiting i₀ i = waiting_words - i
 
 loop-holds : tie.Need-loop-init invariant-loop decreases-loop
 loop-holds c = (search rules, λ k l. absurd (omega arith))
@@ -50,7 +50,7 @@ loop-less c = search rules
 loop-again : tie.Need-loop-preserved invariant-loop decreases-loop
 loop-again c =
     let h = c.before.before.before in
-    (search rules, idle-more h.before.before.args.waiting.now h.loop.i h.loop.invariant.1 c.if1.false)
+    (search rules, idle_more h.before.before.args.waiting.now h.loop.i h.loop.invariant.1 c.if1.false)
 
 returns-2 : tie.Need-returns-2 invariant-loop decreases-loop
 returns-2 c =

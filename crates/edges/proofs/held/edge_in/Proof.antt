@@ -5,9 +5,9 @@ use mathlib.Core.Path.{sym, ◌∙◌, ap}
 use lib.ListN.{get_or}
 use Prim.Native.Nat.{◌+◌, ◌-◌}
 use Rattle.simulation.specs.Ordered.{elem}
-use Rattle.simulation.proofs.Ordered.{rising-make}
+use Rattle.simulation.proofs.Ordered.{rising_make}
 use Rattle.session.specs.Limits.{edges_at}
-use Rattle.session.specs.Trigger.{edgeNumber}
+use Rattle.session.specs.Trigger.{edge_number}
 use Rattle.session.specs.Layout.{graph_of}
 use Rattle.edges.proofs.Stored.{Held, held, edges-part, edge-elem}
 use Rattle.edges.proofs.held.edge_in.Statement.{statement}
@@ -45,7 +45,7 @@ has-edge-requires : tie.Need-has-edge-requires
 has-edge-requires c κs =
     let s = c.before.before.before in
     let xs = s.args.session.now in
-    rw (edges-part xs (edges_at + get_or xs 2 0 - edges_at) (omega arith)) (rising-make (graph_of xs).edges (holds s).rising)
+    rw (edges-part xs (edges_at + get_or xs 2 0 - edges_at) (omega arith)) (rising_make (graph_of xs).edges (holds s).rising)
 
 returns : tie.Need-returns
 returns c =
@@ -53,8 +53,8 @@ returns c =
     let a = s.args in
     let xs = a.session.now in
     c.has-edge.ensures
-    ∙ ap (elem (edgeNumber a.start a.end)) (edges-part xs (edges_at + get_or xs 2 0 - edges_at) (omega arith))
-    ∙ sym (edge-elem (graph_of xs) a.start a.end (omega (arith, (holds s).few-nodes)))
+    ∙ ap (elem (edge_number a.start a.end)) (edges-part xs (edges_at + get_or xs 2 0 - edges_at) (omega arith))
+    ∙ sym (edge-elem (graph_of xs) a.start a.end (omega (arith, (holds s).few_nodes)))
 
 pub edge-in-spec : {M : Type 1} → statement M
 edge-in-spec =

@@ -3,10 +3,10 @@ use borrow.Author.Rules.{rules}
 use native.Mathlib.Omega.{arith}
 use Prim.Native.Nat.{◌+◌, ◌-◌, ◌≤◌}
 use lib.ListN.{length, get_or}
-use Rattle.simulation.proofs.Ordered.{rising-make}
+use Rattle.simulation.proofs.Ordered.{rising_make}
 use Rattle.session.specs.Limits.{edges_at}
 use Rattle.session.specs.Layout.{graph_of}
-use Rattle.edges.proofs.Stored.{Held, held, part-size, edges-front, before-part, insert-stored}
+use Rattle.edges.proofs.Stored.{Held, held, part-size, edges-front, before-part, insert_stored}
 use Rattle.edges.proofs.held.insert_edge.Statement.{statement}
 use Rattle.edges.proofs.held.insert_edge.Tie as tie
 
@@ -47,8 +47,8 @@ put-edge-requires c κs =
     let xs = s.args.session.now in
     let k = edges_at + 1 + get_or xs 2 0 - edges_at in
     let f = holds s in
-    let room : edges_at + k ≤ length xs = omega (arith, f.long, f.few-edges) in
-    (omega (arith, part-size xs k room), rw (edges-front xs k (omega arith) room) (rising-make (graph_of xs).edges f.rising))
+    let room : edges_at + k ≤ length xs = omega (arith, f.long, f.few_edges) in
+    (omega (arith, part-size xs k room), rw (edges-front xs k (omega arith) room) (rising_make (graph_of xs).edges f.rising))
 
 add-session : tie.Need-overflow-add-session
 add-session c = omega (arith, holds c.before.before.before.before.before.before)
@@ -67,7 +67,7 @@ returns c =
     let s = c.before.before.before.before.before.before in
     let xs = s.args.session.now in
     let put = c.before.before.put-edge in
-    insert-stored xs s.requires.0 s.args.start s.args.end put.new.0 (edges_at + 1 + get_or xs 2 0 - edges_at) _ (omega arith) (omega arith)
+    insert_stored xs s.requires.0 s.args.start s.args.end put.new.0 (edges_at + 1 + get_or xs 2 0 - edges_at) _ (omega arith) (omega arith)
     (omega (arith, (holds s).count)) put.ensures
 
 pub insert-edge-spec : {M : Type 1} → statement M

@@ -6,13 +6,13 @@ use mathlib.Core.Bool.{true}
 use Prim.Native.Nat.{◌+◌, ◌-◌, ◌<◌}
 use lib.ListN.{get_or}
 use Rattle.simulation.specs.Ordered.{elem}
-use Rattle.simulation.proofs.Ordered.{rising-make, elem-index}
+use Rattle.simulation.proofs.Ordered.{rising_make, elem_index}
 use Rattle.session.specs.Limits.{edges_at}
-use Rattle.session.specs.Trigger.{nodes, edgeNumber}
+use Rattle.session.specs.Trigger.{nodes, edge_number}
 use Rattle.session.specs.Layout.{graph_of}
 use Rattle.session.proofs.Valid.{edge-inside}
 use Rattle.session.proofs.Decoded.{layout-facts}
-use Rattle.edges.proofs.Stored.{Held, held, edges-part, edge-elem, before-part, remove-stored}
+use Rattle.edges.proofs.Stored.{Held, held, edges-part, edge-elem, before-part, remove_stored}
 use Rattle.edges.proofs.held.remove_edge.Statement.{statement}
 use Rattle.edges.proofs.held.remove_edge.Tie as tie
 
@@ -26,10 +26,10 @@ inside s =
     let xs = s.args.session.now in
     edge-inside (graph_of xs) (layout-facts xs s.requires.0).graph s.args.start s.args.end s.requires.1
 
-there : (s : tie.Start) → elem (edgeNumber s.args.start s.args.end) (graph_of s.args.session.now).edges ≡ true
+there : (s : tie.Start) → elem (edge_number s.args.start s.args.end) (graph_of s.args.session.now).edges ≡ true
 there s =
     let xs = s.args.session.now in
-    sym (edge-elem (graph_of xs) s.args.start s.args.end (omega (arith, (holds s).few-nodes, (inside s).1))) ∙ s.requires.1
+    sym (edge-elem (graph_of xs) s.args.start s.args.end (omega (arith, (holds s).few_nodes, (inside s).1))) ∙ s.requires.1
 
 slice-read-edges : tie.Need-slice-read-edges
 slice-read-edges c = omega (arith, holds c.before.before)
@@ -59,13 +59,13 @@ drop-edge-requires : tie.Need-drop-edge-requires
 drop-edge-requires c κs =
     let s = c.before.before.before in
     let xs = s.args.session.now in
-    rw (edges-part xs (edges_at + get_or xs 2 0 - edges_at) (omega arith)) (rising-make (graph_of xs).edges (holds s).rising, there s)
+    rw (edges-part xs (edges_at + get_or xs 2 0 - edges_at) (omega arith)) (rising_make (graph_of xs).edges (holds s).rising, there s)
 
 sub-session : tie.Need-overflow-sub-session
 sub-session c =
     let s = c.before.before.before.before.before.before in
     let a = s.args in
-    omega (arith, (holds s).count, (elem-index (edgeNumber a.start a.end) (graph_of a.session.now).edges (there s)).1)
+    omega (arith, (holds s).count, (elem_index (edge_number a.start a.end) (graph_of a.session.now).edges (there s)).1)
 
 slice-write-session : tie.Need-slice-write-session
 slice-write-session c =
@@ -81,7 +81,7 @@ returns c =
     let s = c.before.before.before.before.before.before in
     let xs = s.args.session.now in
     let drop = c.before.before.drop-edge in
-    remove-stored xs s.requires.0 s.args.start s.args.end drop.new.0 (edges_at + get_or xs 2 0 - edges_at) _ (omega arith) (omega arith) (there s)
+    remove_stored xs s.requires.0 s.args.start s.args.end drop.new.0 (edges_at + get_or xs 2 0 - edges_at) _ (omega arith) (omega arith) (there s)
     drop.ensures
 
 pub remove-edge-spec : {M : Type 1} → statement M
