@@ -38,7 +38,7 @@ pub fn begins(change: i32) -> bool
 }
 
 // The node of a change, and the number of its state.
-#[derive(Drop)]
+#[derive(Clone, Copy)]
 pub struct Pair {
     pub node: u32,
     pub state: u32,

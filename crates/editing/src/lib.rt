@@ -12,7 +12,7 @@ use session_parts::{edges_of, links_of};
 use worklist::{WAITING_WORDS, put_in};
 
 // What an edit proper tells beside what it leaves: how many pairs were tried, and whether it left the marks alone.
-#[derive(Drop)]
+#[derive(Clone, Copy)]
 pub struct Effect {
     pub trials: u32,
     pub calm: bool,

@@ -81,7 +81,7 @@ fn show(label: &[u8], answer: Answer) {
 }
 
 // How many of each list are given, which states are inverted, and how much is lent.
-#[derive(Drop)]
+#[derive(Clone, Copy)]
 struct Sizes {
     masks: usize,
     values: usize,

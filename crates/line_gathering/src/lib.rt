@@ -8,7 +8,7 @@ pub const LONGEST_FRAME: usize = 20;
 pub const KEPT: usize = LONGEST_FRAME + 1;
 
 // Where the block is read next, how long the front is then, and whether it is a whole line.
-#[derive(Drop)]
+#[derive(Clone, Copy)]
 pub struct Gathered {
     pub at: usize,
     pub used: usize,

@@ -1,13 +1,13 @@
 // The types in which the engine's calls answer. What each call promises is defined in specs/.
 
 // Whether every state that is reached from State One stands at some node.
-#[derive(Drop)]
+#[derive(Clone, Copy)]
 pub enum Firing {
     Fires,
     Silent,
 }
 
-#[derive(Drop)]
+#[derive(Clone, Copy)]
 pub struct Report {
     pub firing: Firing,
     pub trials: u32,
@@ -15,14 +15,14 @@ pub struct Report {
 }
 
 // The answer to a load or an edit; a refusal has the number of the first rule broken.
-#[derive(Drop)]
+#[derive(Clone, Copy)]
 pub enum Answer {
     Accepted(Report),
     Refused(u8),
 }
 
 // Whether a state stands at a node.
-#[derive(Drop)]
+#[derive(Clone, Copy)]
 pub enum Standing {
     Stands,
     Absent,
@@ -30,14 +30,14 @@ pub enum Standing {
 }
 
 // Whether the trigger fires.
-#[derive(Drop)]
+#[derive(Clone, Copy)]
 pub enum FiringAnswer {
     Now(Firing),
     Refused(u8),
 }
 
 // The states in depth-first order: how many, and their numbers; places past them are zero.
-#[derive(Drop)]
+#[derive(Clone, Copy)]
 pub enum OrderAnswer {
     Listed(u8),
     Refused(u8),

@@ -14,7 +14,7 @@ use libc::{STDIN_FILENO, STDOUT_FILENO};
 use line_gathering::KEPT;
 
 // How long the front of a line begun is, and whether all was written so far.
-#[derive(Drop)]
+#[derive(Clone, Copy)]
 struct Begun {
     used: usize,
     written: bool,
