@@ -1,4 +1,6 @@
 // Answers as lines of an output.
+#![tactic(auto)]
+
 ghost use Rattle.std.specs.Prelude.{◌≡◌, [], ◌∷◌, ◌++◌, ◌+◌, ◌*◌, ◌<◌, ◌≤◌, length};
 ghost use Rattle.listing.specs.Placed.{Placed};
 ghost use Rattle.promises.specs.Answers.{told, handed_back};

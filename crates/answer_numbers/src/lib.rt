@@ -1,4 +1,6 @@
 // An answer as one number.
+#![tactic(auto)]
+
 ghost use Rattle.std.specs.Prelude.{◌≡◌, ◌++◌, ◌≤◌, length, drop};
 ghost use Rattle.session.specs.Limits.{max_states};
 ghost use Rattle.session.specs.Layout.{section};

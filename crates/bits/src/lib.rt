@@ -1,4 +1,6 @@
 // Sets of small numbers, each held in a word: bit i is 1 where i is a member.
+#![tactic(auto)]
+
 ghost use Rattle.std.specs.Prelude.{◌≡◌, Bool, true, false, not, cond, ℕ, ◌-◌, ◌^◌, ◌%◌, ◌<◌, ◌≤◌, ltb, eqb, length, get_or};
 ghost use Rattle.std.specs.Bool.{beq};
 ghost use Rattle.std.specs.Int.Bits.{bit_and};

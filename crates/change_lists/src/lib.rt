@@ -1,4 +1,6 @@
 // Change numbers, built and taken apart, and the change list.
+#![tactic(auto)]
+
 ghost use Rattle.std.specs.Prelude.{◌≡◌, ◌+◌, ◌*◌, ◌<◌, ◌≤◌, eqb, pos, nat_abs, length, get_or};
 ghost use Rattle.std.specs.Int.Signed.{lt_z};
 ghost use Rattle.simulation.specs.Sets.{all_below};

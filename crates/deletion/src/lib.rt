@@ -1,4 +1,6 @@
 // A deletion: the marks that an edge less leaves.
+#![tactic(auto)]
+
 ghost use Rattle.std.specs.Prelude.{◌≡◌, true, ◌<◌, length, take, drop};
 ghost use Rattle.session.specs.Limits.{marks_at, max_nodes};
 ghost use Rattle.session.specs.Trigger.{nodes};

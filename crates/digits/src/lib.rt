@@ -1,4 +1,6 @@
 // Hexadecimal digits: a byte or a line read, a number written.
+#![tactic(auto)]
+
 ghost use Rattle.std.specs.Prelude.{◌≡◌, true, ◌<◌, ◌≤◌, ◌+◌, ◌*◌, length};
 ghost use Rattle.listing.specs.Placed.{Placed};
 ghost use Rattle.frames.specs.Digits as d;

@@ -1,4 +1,6 @@
 // The two indexes of the edges, by which a look at a node searches for nothing: where its own edges begin, and which end at it.
+#![tactic(auto)]
+
 ghost use Rattle.std.specs.Prelude.{◌≡◌, true, ℕ, ◌<◌, ◌≤◌, length, get_or};
 ghost use Rattle.session.specs.Limits.{max_edges, max_nodes, edge_numbers};
 ghost use Rattle.session.specs.Layout.{below};

@@ -1,4 +1,6 @@
 // The ascending list of a graph's edges: one looked for, one put in, one taken out.
+#![tactic(auto)]
+
 ghost use Rattle.std.specs.Prelude.{◌≡◌, true, [], ◌∷◌, ◌++◌, ◌+◌, ◌-◌, ◌<◌, ◌≤◌, leb, length, get_or, take, drop};
 ghost use Rattle.simulation.specs.Search.{first};
 ghost use Rattle.simulation.specs.Ordered.{ascends, from, elem, insert, remove};

@@ -1,4 +1,6 @@
 // The calls that insert and delete an edge: the rules, the edit proper, and its report.
+#![tactic(auto)]
+
 ghost use Rattle.std.specs.Prelude.{◌≡◌, true, length};
 ghost use Rattle.session.specs.Limits.{max_nodes};
 ghost use Rattle.session.specs.Layout.{trigger_of, graph_of, marks_of, in_layout};

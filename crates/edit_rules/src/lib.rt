@@ -1,4 +1,6 @@
 // The rules of an edit, in their sequence.
+#![tactic(auto)]
+
 ghost use Rattle.std.specs.Prelude.{◌≡◌};
 ghost use Rattle.promises.specs.Rules.{edit_rules, verdict};
 ghost use Rattle.editing.specs.Steps.{kind_of, shared_rules};

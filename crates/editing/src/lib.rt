@@ -1,4 +1,6 @@
 // What the steps of an edit leave is defined in specs/, with the laws that insertion and deletion share, and the refinement from one node.
+#![tactic(auto)]
+
 ghost use Rattle.std.specs.Prelude.{◌≡◌, true, ◌<◌, length};
 ghost use Rattle.session.specs.Limits.{max_nodes};
 ghost use Rattle.session.specs.Trigger.{nodes};

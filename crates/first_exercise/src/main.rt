@@ -1,4 +1,6 @@
 // The first exercise of the course through the library's calls: one state that is linked to itself, three nodes, a ring closed and opened.
+#![tactic(auto)]
+
 use matching::{Answer, Firing, FiringAnswer, OrderAnswer, Standing};
 
 // Each change: its pair, and whether it began to stand or ceased.

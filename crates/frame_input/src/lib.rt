@@ -1,4 +1,6 @@
 // The input in blocks: the lines that end in a block are answered, and at the input's end the line that was begun.
+#![tactic(auto)]
+
 ghost use Rattle.std.specs.Prelude.{◌≡◌};
 ghost use Rattle.promises.specs.Rules.{verdict};
 ghost use Rattle.frames.specs.Machine.{memory};

@@ -1,4 +1,6 @@
 // The machine: it takes one line of input at a time, in memory that the caller lends.
+#![tactic(auto)]
+
 ghost use Rattle.std.specs.Prelude.{◌≡◌, ◌||◌, ltb};
 ghost use Rattle.session.specs.Limits.{max_states, max_nodes, fixed_size, max_changes};
 ghost use Rattle.promises.specs.Rules.{verdict};

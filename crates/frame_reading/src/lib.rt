@@ -1,4 +1,6 @@
 // A line of bytes is read as a frame.
+#![tactic(auto)]
+
 ghost use Rattle.std.specs.Prelude.{◌≡◌, true, cond, ◌+◌, ◌≤◌, length};
 ghost use Rattle.frames.specs.Digits as d;
 ghost use Rattle.frames.specs.Frames as f;

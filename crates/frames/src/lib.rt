@@ -1,4 +1,5 @@
 // Frames: what a line says and what it is answered is defined in specs/. The types in which a line is read and answered.
+#![tactic(auto)]
 
 // How many bytes of output a line gave, or the rule that the lent memory breaks.
 #[derive(Clone, Copy)]

@@ -1,4 +1,6 @@
 // Frames after an accepted run: an edit, and the depth-first order.
+#![tactic(auto)]
+
 ghost use Rattle.std.specs.Prelude.{List, ℕ, ◌≤◌, ℤ, length};
 ghost use Rattle.editing.specs.Steps.{kind_of};
 ghost use Rattle.frames.specs.Frames as f;

@@ -1,4 +1,6 @@
 // Frames before an accepted run: a state or a node is kept, and the run loads what was read.
+#![tactic(auto)]
+
 ghost use Rattle.std.specs.Prelude.{◌≡◌, cond, List, ℕ, ◌+◌, ◌^◌, ◌%◌, ◌<◌, ◌≤◌, ℤ, length, get_or};
 ghost use Rattle.session.specs.Limits.{max_states, max_nodes};
 ghost use Rattle.promises.specs.Answers.{told};

@@ -1,4 +1,6 @@
 // The trial set: it is grown from its seeds, node by node, until no pair is missing.
+#![tactic(auto)]
+
 ghost use Rattle.std.specs.Prelude.{◌≡◌, true, ℕ, ◌<◌, length};
 ghost use Rattle.session.specs.Limits.{max_nodes};
 ghost use Rattle.pair_tables.specs.Tables.{marked};

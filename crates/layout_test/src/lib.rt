@@ -1,4 +1,6 @@
 // The test whether a memory is in layout: trigger, graph and marks.
+#![tactic(auto)]
+
 ghost use Rattle.std.specs.Prelude.{◌≡◌, true, ◌^◌, ◌≤◌, length};
 ghost use Rattle.session.specs.Limits.{fixed_size, masks_at, samples_at, max_edges, max_nodes, max_states, word_bits};
 ghost use Rattle.session.specs.Layout.{part, below, in_layout};

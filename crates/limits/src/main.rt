@@ -1,4 +1,6 @@
 // Loads at the limits of a trigger, a graph, the memory and the room: what each is answered.
+#![tactic(auto)]
+
 use matching::{Answer, Firing};
 
 // One more of each list than a load may have, and one more word and place than it must have.

@@ -1,4 +1,6 @@
 // A line is gathered byte by byte. A line longer than any frame is no frame whatever follows, so no more than its front is kept.
+#![tactic(auto)]
+
 ghost use Rattle.std.specs.Prelude.{[], ◌∷◌};
 ghost use Rattle.frames.specs.Lines as l;
 

@@ -1,4 +1,6 @@
 // Sets of states by their links: those that a set is linked to, those with a link to a set, and those that are reached.
+#![tactic(auto)]
+
 ghost use Rattle.std.specs.Prelude.{◌≡◌, ℕ, ◌≤◌, ◌<◌, length, get_or, ◌&&◌, ◌||◌, eqb};
 ghost use Rattle.simulation.specs.Sets.{minus};
 ghost use Rattle.bits.specs.Word.{members, set_bits};

@@ -1,4 +1,6 @@
 // The rules of a load, in their sequence.
+#![tactic(auto)]
+
 ghost use Rattle.std.specs.Prelude.{◌≡◌, not, ◌&&◌, ◌||◌, suc, ◌-◌, ◌^◌, ◌≤◌, ltb, eqb, length, get_or};
 ghost use Rattle.simulation.specs.Sets.{all_below};
 ghost use Rattle.session.specs.Limits.{max_edges, max_states};

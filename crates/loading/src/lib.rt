@@ -1,4 +1,6 @@
 // The call that loads a trigger and a graph.
+#![tactic(auto)]
+
 ghost use Rattle.std.specs.Prelude.{◌≡◌, true, false, ℕ, length, get_or, drop, ◌++◌};
 ghost use Rattle.session.specs.Limits.{max_nodes, fixed_size, max_changes};
 ghost use Rattle.session.specs.Layout.{in_layout, image};

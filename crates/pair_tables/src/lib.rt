@@ -1,4 +1,6 @@
 // Tables of pairs, a word of states for each node: those that are admitted, tables put together and taken away, pairs counted.
+#![tactic(auto)]
+
 ghost use Rattle.std.specs.Prelude.{◌≡◌, Bool, true, not, ◌&&◌, ◌||◌, cond, ℕ, ◌-◌, ◌^◌, ◌<◌, ◌≤◌, ◌*◌, ◌/◌, ◌%◌, length, get_or, ltb};
 ghost use Rattle.session.specs.Limits.{max_nodes, max_states, word_bits};
 ghost use Rattle.session.specs.Layout.{below};

@@ -1,4 +1,5 @@
 // The types in which the engine's calls answer. What each call promises is defined in specs/.
+#![tactic(auto)]
 
 // Whether every state that is reached from State One stands at some node.
 #[derive(Clone, Copy)]

@@ -1,4 +1,6 @@
 // The questions: what the marks that the session holds say, and the depth-first order.
+#![tactic(auto)]
+
 ghost use Rattle.std.specs.Prelude.{◌≡◌, []};
 ghost use Rattle.promises.specs.Rules.{question_rules, pair_rules, verdict};
 ghost use Rattle.promises.specs.Promises.{Matches, Fires, Ordered};

@@ -1,4 +1,6 @@
 // Refinement: tentative pairs that the settled and the tentative pairs do not support are cleared, node by node, until none is left.
+#![tactic(auto)]
+
 ghost use Rattle.std.specs.Prelude.{◌≡◌, true, not, ◌&&◌, ℕ, ◌<◌, ◌≤◌, length, get_or};
 ghost use Rattle.bits.specs.Word.{members, set_bits};
 ghost use Rattle.simulation.specs.Ordered.{ascends};

@@ -1,4 +1,6 @@
 // What the calls share: rule 3 of a load and an edit, whether the trigger fires, the list handed back, and the report of a call.
+#![tactic(auto)]
+
 ghost use Rattle.std.specs.Prelude.{◌≡◌, not, ◌||◌, true, ltb, ◌<◌, ◌≤◌, length, get_or};
 ghost use Rattle.session.specs.Limits.{fixed_size, max_changes, max_nodes};
 ghost use Rattle.simulation.specs.Sets.{all_below, any_below};

@@ -1,4 +1,6 @@
 // Sections of a session filled: words, half words or edges, and zeros after them.
+#![tactic(auto)]
+
 ghost use Rattle.std.specs.Prelude.{◌≡◌, true, [], ◌≤◌, ◌<◌, length};
 ghost use Rattle.session.specs.Limits.{max_nodes};
 ghost use Rattle.session.specs.Layout.{numbered, section, below};

@@ -1,4 +1,5 @@
 // The session in lent memory: its limits, and the places of its sections. What it holds is defined in specs/.
+#![tactic(auto)]
 
 // The limits, and the places of the sections. An edge is the number start * EDGE_BASE + end.
 pub const MAX_STATES: usize = 32;

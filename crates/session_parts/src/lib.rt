@@ -1,4 +1,6 @@
 // The parts of a session that is in layout, what it admits, and its marks stored.
+#![tactic(auto)]
+
 ghost use Rattle.std.specs.Prelude.{ℕ, ◌+◌, ◌<◌, ◌≤◌, ◌≡◌, true, take, drop, length, get_or, ◌++◌};
 ghost use Rattle.session.specs.Limits.{marks_at, max_nodes, fixed_size};
 ghost use Rattle.session.specs.Layout.{part, trigger_of, graph_of, in_layout, image};

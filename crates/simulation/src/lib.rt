@@ -1,1 +1,2 @@
 // Greatest simulations: the definitions are in specs/, their laws in proofs/. There is no code.
+#![tactic(auto)]

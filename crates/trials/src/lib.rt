@@ -1,4 +1,6 @@
 // The trial set of an insertion: its seeds, whether they are the whole of it, its growth from them, and which of its pairs begin to stand.
+#![tactic(auto)]
+
 ghost use Rattle.std.specs.Prelude.{◌≡◌, true, ℕ, ◌<◌, ◌≤◌, length, get_or, take};
 ghost use Rattle.bits.specs.Word.{members};
 ghost use Rattle.session.specs.Limits.{max_nodes, max_edges, edge_numbers};

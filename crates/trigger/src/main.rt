@@ -1,5 +1,7 @@
 // Frames from standard input, their answers to standard output: read, answer, write. Where a line ends, what it says and what it is answered
 // is the library's to tell.
+#![tactic(auto)]
+
 ghost use Rattle.std.specs.Prelude.{◌≡◌, ℕ, ◌≤◌, true, List, [], length, take};
 ghost use Rattle.session.specs.Limits.{max_changes};
 ghost use Rattle.promises.specs.Rules.{verdict};

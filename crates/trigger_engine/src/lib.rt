@@ -1,5 +1,7 @@
 // The engine for callers in C. A slice is a pointer and a length there, and an answer is one number: include/trigger_engine.h says
 // how. No call asks anything of its numbers.
+#![tactic(auto)]
+
 ghost use Rattle.std.specs.Prelude.{◌≡◌};
 ghost use Rattle.session.specs.Limits.{fixed_size, max_changes};
 ghost use Rattle.promises.specs.Rules.{given};

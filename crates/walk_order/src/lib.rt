@@ -1,4 +1,6 @@
 // The depth-first order of the states: a walk over links that calls itself, with the states visited passed on.
+#![tactic(auto)]
+
 ghost use Rattle.std.specs.Prelude.{◌≡◌, List, ℕ, ◌<◌, ◌≤◌, length};
 ghost use Rattle.session.specs.Layout.{section};
 ghost use Rattle.listing.specs.Order.{order};

@@ -1,4 +1,6 @@
 // The nodes that must be looked at again, as a set, and the ways in which nodes are put in.
+#![tactic(auto)]
+
 ghost use Rattle.std.specs.Prelude.{◌≡◌, true, ◌&&◌, ◌||◌, not, ℕ, ◌/◌, ◌%◌, ◌<◌, ◌≤◌, eqb, length, get_or};
 ghost use Rattle.simulation.specs.Sets.{also, without};
 ghost use Rattle.simulation.specs.Search.{first};

@@ -1,0 +1,33 @@
+-- The report and then its changes, or the refusal.
+use borrow.Author.Rules.{rules}
+use Prim.Native.Nat.{◌*◌}
+use native.Mathlib.Omega.{arith}
+use mathlib.Core.Path.{◌≡◌, sym, ◌∙◌, ap}
+use lib.ListN.{length}
+use Rattle.listing.proofs.Placing.{placed-append}
+use Rattle.promises.specs.Answers.{told, handed_back}
+use Rattle.frames.specs.Outputs.{report_line, change_size}
+use Rattle.frames.proofs.Written.{room_after}
+use Rattle.frames.proofs.Listed.{report-long}
+use Rattle.answer_lines.proofs.put_answer.Goals as goal
+use Rattle.answer_lines.proofs.put_answer.Goals.{After-changed_part}
+
+-- the part is the list handed back
+handed : (c : After-changed_part) → let a = c.args in c.changed_part.result.now ≡ handed_back a.room.now a.answer
+handed c = c.changed_part.ensures ∙ ap (handed_back c.args.room.now) (sym c.answer-1.given.1)
+
+pub put_changes-requires : goal.put_changes-requires
+put_changes-requires c =
+    let k = c.put_report-next in
+    let e = ap length (handed c) in
+    let v = c.answer-1.given.0.0 in
+    omega (arith, e, room_after c.args.out.now 0 (report_line c.says.result v.trials v.changes) k.new.0 k.result (change_size * length (handed_back c.args.room.now c.args.answer)) (omega (arith, c.requires, report-long c.says.result v.trials v.changes)) k.ensures)
+
+pub returns-in-Accepted : goal.returns-in-Accepted
+returns-in-Accepted c =
+    rw (ap told c.answer-1.given.1, ← handed (goal.at.returns-in-Accepted c).After-changed_part, ← c.says.ensures)
+    (placed-append (omega arith) c.put_report-next.ensures c.put_changes.ensures)
+
+pub returns-in-Refused : goal.returns-in-Refused
+returns-in-Refused c =
+    rw (ap told c.answer-in-Refused-1.given.1) c.put_refusal.ensures

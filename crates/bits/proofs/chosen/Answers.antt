@@ -1,0 +1,14 @@
+-- `chosen` meets its contract: every bit or none, turned, and the word under it.
+use borrow.Author.Rules.{rules}
+use mathlib.Core.Path.{ap₂, ◌∙◌}
+use Prim.Native.Nat.{ℕ}
+use lib.Bits.{bit_and, bit_xor}
+use Rattle.bits.proofs.Turns.{turned-word}
+use Rattle.bits.specs.Word.{set_bits}
+use Rattle.bits.proofs.chosen.Goals as goal
+
+pub returns : goal.returns
+returns c =
+    λ b e.
+    let a = c.args in
+    ap₂ (λ (x y : ℕ). bit_and a.word (bit_xor x y)) c.picked.ensures e ∙ turned-word set_bits a.word (search rules) b a.test

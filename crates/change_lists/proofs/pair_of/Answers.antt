@@ -1,0 +1,14 @@
+-- `pair_of` meets its contract.
+use native.Mathlib.Omega.{arith}
+use borrow.Author.Rules.{rules}
+use mathlib.Core.Path.{◌≡◌, ap, ◌∙◌}
+use lib.IntN.{nat_abs}
+use mir.Syntax.{w32}
+use mir.ValLaws.{to_z-of_z}
+use Rattle.change_lists.proofs.pair_of.Goals as goal
+
+pub returns : goal.returns
+returns c =
+    let z = c.args.change in
+    let e : c.type_size.result ≡ nat_abs z = c.type_size.ensures ∙ ap nat_abs (to_z-of_z w32 z c.ranges.change) in
+    (omega arith, omega arith)

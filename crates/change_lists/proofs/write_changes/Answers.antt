@@ -1,0 +1,51 @@
+use Prim.Native.Nat.{◌*◌, ◌-◌, ◌≤◌}
+use native.Mathlib.Omega.{arith}
+use borrow.Author.Rules.{rules}
+use borrow.Author.Tests.{eqb-true}
+use mathlib.Core.Path.{◌≡◌, refl, sym, ◌∙◌}
+use mathlib.Core.Logic.{⊎_elim}
+use lib.Dec.{eqb}
+use lib.ListN.{length, get_or}
+use Rattle.simulation.proofs.Sets.{all_take}
+use Rattle.listing.specs.Placed.{table_changes, Placed}
+use Rattle.listing.proofs.Placing.{placed-start, node-short, table_none, table_same, table_wrote, table-passed}
+use Rattle.session.specs.Limits.{max_states}
+use Rattle.change_lists.proofs.write_changes.Goals as goal
+
+pub returns-then-same_words : goal.returns-then-same_words
+returns-then-same_words c =
+    let a = c.args in
+    let bs = a.before.now in
+    let cs = a.after.now in
+    let agree = sym c.same_words.ensures ∙ c.if-same_words.true in
+    rw
+    (table_same a.states bs cs a.nodes
+    (λ k l. eqb-true (get_or bs k 0) (get_or cs k 0) (all_take a.nodes (λ v. eqb (get_or bs v 0) (get_or cs v 0)) agree k l)))
+    (placed-start a.changes.now 0)
+
+pub loop-v-init : goal.loop-v-init
+loop-v-init c =
+    let a = c.args in
+    (search rules, search rules, refl, rw table_none (placed-start a.changes.now 0))
+
+pub loop-v-preserved : goal.loop-v-preserved
+loop-v-preserved c =
+    let a = c.args in
+    let l = c.loop-v in
+    let bs = a.before.now in
+    let cs = a.after.now in
+    ⊎_elim
+    (λ w.
+    rw (w.4, w.5) (
+      search rules,
+      omega (arith, w.2.ensures.past, node-short l.v a.states (get_or bs l.v 0) (get_or cs l.v 0)),
+      w.2.kept.0 ∙ l.invariant.2,
+      table_wrote a.states bs cs l.v l.invariant.3 w.2.ensures,
+    ))
+    (λ w. rw (w.1, w.2) (search rules, search rules, l.invariant.2, table-passed a.states bs cs l.v l.invariant.3 w.0.left))
+    c.if-was-is.branch
+
+pub returns : goal.returns
+returns c =
+    let end : c.loop-v.v ≡ c.args.nodes = omega arith in
+    rw (← end) c.loop-v.invariant.3

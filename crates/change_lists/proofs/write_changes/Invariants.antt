@@ -1,0 +1,22 @@
+-- `write_changes` meets its contract: tables that agree have no changes, and after v nodes the changes of these are written, at most one a state for each.
+use Prim.Native.Nat.{◌*◌, ◌-◌, ◌≤◌}
+use native.Mathlib.Omega.{arith}
+use borrow.Author.Rules.{rules}
+use borrow.Author.Tests.{eqb-true}
+use mathlib.Core.Path.{◌≡◌, refl, sym, ◌∙◌}
+use mathlib.Core.Logic.{⊎_elim}
+use lib.Dec.{eqb}
+use lib.ListN.{length, get_or}
+use Rattle.simulation.proofs.Sets.{all_take}
+use Rattle.listing.specs.Placed.{table_changes, Placed}
+use Rattle.listing.proofs.Placing.{placed-start, node-short, table_none, table_same, table_wrote, table-passed}
+use Rattle.session.specs.Limits.{max_states}
+use Rattle.change_lists.proofs.write_changes.Given as goal
+
+abbrev pub invariant-loop-v : goal.invariant-loop-v
+invariant-loop-v l =
+    (l.v ≤ l.nodes) × (l.next ≤ l.v * max_states) × (length l.changes ≡ length l.initial.changes) × Placed l.initial.changes 0 (table_changes l.states l.v l.before l.after) l.changes l.next
+
+abbrev pub decreases-loop-v : goal.decreases-loop-v
+decreases-loop-v l =
+    l.nodes - l.v

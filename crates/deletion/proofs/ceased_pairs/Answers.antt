@@ -1,0 +1,48 @@
+-- The table takes its pairs away from the marks, and what is left is counted.
+use borrow.Author.Rules.{rules}
+use native.Mathlib.Omega.{arith}
+use mathlib.Core.Path.{◌≡◌, ◌∙◌, ap}
+use lib.ListN.{length, take, drop}
+use Rattle.session.specs.Limits.{marks_at, max_nodes}
+use Rattle.session.proofs.Decoded.{Bounded, layout_limits}
+use Rattle.session_parts.proofs.Parts.{marks-long}
+use Rattle.deletion.proofs.Counting.{gone-states, gone-counted}
+use Rattle.deletion.proofs.ceased_pairs.Goals as goal
+use Rattle.deletion.proofs.ceased_pairs.Goals.{After-copy_words, After-shared_slice_known-4-1}
+
+abbrev bounded : (c : After-shared_slice_known-4-1) → Bounded c.args.session.now
+bounded c = layout_limits c.args.session.now c.requires.0
+
+-- the marks are saved whole
+saved : (c : After-copy_words) → c.copy_words.new.0 ≡ take max_nodes (drop marks_at c.args.session.now)
+saved c = c.copy_words.ensures ∙ c.marks_of.ensures
+
+pub bounds-session-0 : goal.bounds-session-0
+bounds-session-0 c =
+    omega (arith, layout_limits c.args.session.now c.requires.0)
+
+pub bounds-session-1 : goal.bounds-session-1
+bounds-session-1 c =
+    omega (arith, bounded (goal.at.bounds-session-1 c).After-shared_slice_known-4-1)
+
+pub overflow_cast-nodes : goal.overflow_cast-nodes
+overflow_cast-nodes c =
+    omega (arith, bounded c)
+
+pub copy_words-requires : goal.copy_words-requires
+copy_words-requires c =
+    ap length c.marks_of.ensures ∙ marks-long c.args.session.now c.requires.0
+
+pub pairs_in-requires : goal.pairs_in-requires
+pairs_in-requires c =
+    let b = bounded (goal.at.pairs_in-requires c).After-shared_slice_known-4-1 in
+    let taken = c.take_away.ensures in (
+      b.few_states,
+      b.few_nodes,
+      omega (arith, b.few_nodes, taken.0),
+      gone-states c.args.session.now c.requires.0 _ c.args.table.now c.take_away.new.0 (saved (goal.at.pairs_in-requires c).After-copy_words) taken.1,
+    )
+
+pub returns : goal.returns
+returns c =
+    c.pairs_in.ensures ∙ gone-counted c.args.session.now c.requires.0 _ c.args.table.now c.take_away.new.0 (saved (goal.at.returns c).After-copy_words) c.take_away.ensures.1

@@ -1,0 +1,34 @@
+use Prim.Native.Nat.{◌-◌}
+use borrow.Author.Rules.{rules}
+use borrow.Author.Tests.{lt-ltb, le-ltb}
+use native.Mathlib.Omega.{arith}
+use mathlib.Core.Logic.{⊎_elim}
+use lib.Dec.{ltb}
+use lib.ListN.{length, get_or}
+use Rattle.simulation.specs.Sets.{Set}
+use Rattle.simulation.proofs.Folds.{Folded, fold_start, fold_pass, fold_fault, fold_end}
+use Rattle.frames.specs.Digits as d
+use Rattle.digits.proofs.hexadecimal.Goals as goal
+
+pub loop-k-init : goal.loop-k-init
+loop-k-init c =
+    let a = c.args in fold_start (λ i. ltb (d.digit (get_or a.line.now i 0)) 16) (length a.line.now)
+
+pub loop-k-preserved : goal.loop-k-preserved
+loop-k-preserved c =
+    let bs = c.args.line.now in
+    let l = c.loop-k in
+    let P : Set = λ i. ltb (d.digit (get_or bs i 0)) 16 in
+    let v = d.digit (get_or bs l.k 0) in
+    let is = c.digit.ensures in
+    ⊎_elim
+    (λ w. rw w.1 (fold_fault P (length bs) l.k (omega arith) (le-ltb v 16 (rw is at w.0.taken))))
+    (λ w. rw w.1 (fold_pass P (length bs) l.faults l.k l.invariant (omega arith) (lt-ltb v 16 (rw is at w.0.left))))
+    c.if-digit-ge16.branch
+
+pub returns : goal.returns
+unfolding d.hexadecimal
+returns c =
+    let bs = c.args.line.now in
+    let l = c.loop-k in
+    fold_end (λ i. ltb (d.digit (get_or bs i 0)) 16) (length bs) l.faults l.k l.invariant (omega arith)

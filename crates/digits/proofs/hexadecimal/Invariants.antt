@@ -1,0 +1,20 @@
+-- The faults found so far.
+use Prim.Native.Nat.{◌-◌}
+use borrow.Author.Rules.{rules}
+use borrow.Author.Tests.{lt-ltb, le-ltb}
+use native.Mathlib.Omega.{arith}
+use mathlib.Core.Logic.{⊎_elim}
+use lib.Dec.{ltb}
+use lib.ListN.{length, get_or}
+use Rattle.simulation.specs.Sets.{Set}
+use Rattle.simulation.proofs.Folds.{Folded, fold_start, fold_pass, fold_fault, fold_end}
+use Rattle.frames.specs.Digits as d
+use Rattle.digits.proofs.hexadecimal.Given as goal
+
+abbrev pub invariant-loop-k : goal.invariant-loop-k
+invariant-loop-k l =
+    Folded (λ i. ltb (d.digit (get_or l.line i 0)) 16) (length l.line) l.faults l.k
+
+abbrev pub decreases-loop-k : goal.decreases-loop-k
+decreases-loop-k l =
+    length l.line - l.k

@@ -1,0 +1,27 @@
+use Prim.Native.Nat.{◌-◌, ◌<◌}
+use Rattle.edge_indexes.proofs.Firsts.{Filling, filling_none, filled-before, filled-noted, filling_next}
+use borrow.Author.Rules.{rules}
+use mathlib.Core.Logic.{⊎_elim}
+use mathlib.Core.Path.{◌∙◌}
+use native.Mathlib.Omega.{arith}
+use Rattle.edge_indexes.specs.Indexes.{starts_size}
+use Rattle.edge_indexes.proofs.fill_in.Goals as goal
+
+pub loop-v-init : goal.loop-v-init
+loop-v-init c =
+    filling_none c.requires
+
+pub loop-v-preserved : goal.loop-v-preserved
+loop-v-preserved c =
+    let x = c.loop-v.invariant in
+    let inside : c.loop-v.v < starts_size = omega (arith, c.loop-v-test.true) in
+    filling_next x inside c.if-noted-ne0.place
+    (⊎_elim
+    (λ w. w.1 ∙ filled-noted x inside w.0.taken)
+    (λ w. w.1 ∙ filled-before x inside w.0.left)
+    c.if-noted-ne0.branch)
+
+pub returns : goal.returns
+returns c =
+    let x = c.loop-v.invariant in
+    (x.long, λ v l. x.done v (omega (arith, c.loop-v-test.false)))

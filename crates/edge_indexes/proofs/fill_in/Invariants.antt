@@ -1,0 +1,17 @@
+-- `fill_in` meets its contract: the places before v are filled in, the others as they were.
+use Prim.Native.Nat.{◌-◌, ◌<◌}
+use Rattle.edge_indexes.proofs.Firsts.{Filling, filling_none, filled-before, filled-noted, filling_next}
+use borrow.Author.Rules.{rules}
+use mathlib.Core.Logic.{⊎_elim}
+use mathlib.Core.Path.{◌∙◌}
+use native.Mathlib.Omega.{arith}
+use Rattle.edge_indexes.specs.Indexes.{starts_size}
+use Rattle.edge_indexes.proofs.fill_in.Given as goal
+
+abbrev pub invariant-loop-v : goal.invariant-loop-v
+invariant-loop-v l =
+    Filling l.initial.firsts l.firsts l.place l.v
+
+abbrev pub decreases-loop-v : goal.decreases-loop-v
+decreases-loop-v l =
+    starts_size - l.v

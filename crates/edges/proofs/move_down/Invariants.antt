@@ -1,0 +1,16 @@
+-- The words move down one by one, from the front, and the last place becomes zero.
+use borrow.Author.Rules.{rules}
+use native.Mathlib.Omega.{arith}
+use Prim.Native.Nat.{◌-◌}
+use mathlib.Core.Path.{◌≡◌, refl}
+use lib.ListN.{length}
+use Rattle.edges.proofs.Moves.{Lowered, lower_start, lower_step, lower_end}
+use Rattle.edges.proofs.move_down.Given as goal
+
+abbrev pub invariant-loop-k : goal.invariant-loop-k
+invariant-loop-k l =
+    (l.last ≡ length l.initial.part - 1) × Lowered l.initial.part l.part l.k
+
+abbrev pub decreases-loop-k : goal.decreases-loop-k
+decreases-loop-k l =
+    l.last - l.k

@@ -1,0 +1,13 @@
+-- The words move up one by one, from the back.
+use borrow.Author.Rules.{rules}
+use native.Mathlib.Omega.{arith}
+use Rattle.edges.proofs.Moves.{Raised, raise_start, raise_step, raise_end}
+use Rattle.edges.proofs.move_up.Given as goal
+
+abbrev pub invariant-loop-k : goal.invariant-loop-k
+invariant-loop-k l =
+    Raised l.initial.part l.part l.k
+
+abbrev pub decreases-loop-k : goal.decreases-loop-k
+decreases-loop-k l =
+    l.k

@@ -1,0 +1,17 @@
+-- `place_of` meets its contract: the answer stays between low and high.
+use Prim.Native.Nat.{◌+◌, ◌-◌, ◌/◌, ◌<◌, ◌≤◌}
+use borrow.Author.Rules.{rules}
+use native.Mathlib.Omega.{arith}
+use mathlib.Core.Logic.{⊎_elim}
+use lib.ListN.{length}
+use Rattle.simulation.proofs.Search.{lt-or-le}
+use Rattle.simulation.proofs.Ordered.{rising-take, place, place-le, before-place, after-place}
+use Rattle.edges.proofs.place_of.Given as goal
+
+abbrev pub invariant-loop-low : goal.invariant-loop-low
+invariant-loop-low l =
+    (l.low ≤ place l.edges l.code) × (place l.edges l.code ≤ l.high) × (l.high ≤ length l.edges)
+
+abbrev pub decreases-loop-low : goal.decreases-loop-low
+decreases-loop-low l =
+    l.high - l.low

@@ -1,0 +1,69 @@
+-- One index serves growth and refinement.
+use native.Mathlib.Omega.{arith}
+use mathlib.Core.Path.{refl}
+use Rattle.session.specs.Layout.{trigger_of, graph_of, marks_of}
+use Rattle.session.proofs.Decoded.{Bounded, LayoutFacts, layout_limits, layout-facts}
+use Rattle.pair_tables.proofs.Zeros.{zeros}
+use Rattle.promises.specs.Standing.{trial_set}
+use Rattle.editing.specs.Steps.{Holds}
+use borrow.Author.Rules.{rules}
+use Rattle.session.specs.Limits.{max_nodes}
+use Rattle.insertion.proofs.try_grown.Goals as goal
+use Rattle.insertion.proofs.try_grown.Goals.{After-try_pairs, Start}
+
+abbrev bounded : (c : Start) → Bounded c.args.session.now
+bounded c = layout_limits c.args.session.now c.requires.session_value.0
+
+abbrev facts : (c : Start) → LayoutFacts c.args.session.now
+facts c = layout-facts c.args.session.now c.requires.session_value.0
+
+tried : (c : After-try_pairs)
+    → let s = «Start» in let xs = s.args.session.now in
+    Holds xs (trial_set (trigger_of xs) (graph_of xs) (marks_of xs) s.args.start s.pre.1.0) c.try_pairs.new.1.1.1.1.1.0
+tried c = c.try_pairs.ensures c.requires.by_index.0 c.requires.by_index.1
+
+pub bounds-session-0 : goal.bounds-session-0
+bounds-session-0 c =
+    omega (arith, bounded (goal.at.bounds-session-0 c).Start)
+
+pub bounds-session-1 : goal.bounds-session-1
+bounds-session-1 c =
+    omega (arith, bounded (goal.at.bounds-session-1 c).Start)
+
+pub overflow_cast-nodes : goal.overflow_cast-nodes
+overflow_cast-nodes c =
+    omega (arith, bounded (goal.at.overflow_cast-nodes c).Start)
+
+pub index-requires : goal.index-requires
+index-requires c =
+    rw c.edges_of.ensures (((facts (goal.at.index-requires c).Start).graph.few_edges, refl, refl), zeros max_nodes)
+
+pub try_pairs-requires : goal.try_pairs-requires
+try_pairs-requires c =
+    record {
+      session_value = c.requires.session_value;
+      indexed = (rw c.edges_of.ensures at c.index.ensures, c.requires.by_index);
+    }
+
+pub pairs_in-trials-requires : goal.pairs_in-trials-requires
+pairs_in-trials-requires c =
+    let b = bounded (goal.at.pairs_in-trials-requires c).Start in
+    let t = tried (goal.at.pairs_in-trials-requires c).After-try_pairs in
+    (b.few_states, b.few_nodes, omega (arith, b.few_nodes, t.long), λ u v e. omega (arith, (t.inside u v e).0, (facts (goal.at.pairs_in-trials-requires c).Start).counts.0))
+
+pub begin-requires : goal.begin-requires
+begin-requires c =
+    let t = tried (goal.at.begin-requires c).After-try_pairs in
+    record {
+      session_value = (c.requires.session_value.0, t.long, t.inside);
+      indexed = rw c.edges_of.ensures at c.index.ensures;
+    }
+
+pub returns : goal.returns
+returns c =
+    λ b is. record {
+      trials = c.try_pairs.new.1.1.1.1.1.0;
+      tried = c.try_pairs.ensures b is;
+      left = c.begin.ensures;
+      counted = c.pairs_in-trials.ensures;
+    }

@@ -1,0 +1,29 @@
+use Prim.Native.Nat.{◌-◌, ◌≤◌}
+use Rattle.bits.specs.Word.{members, set_bits}
+use Rattle.links.proofs.LinkSets.{linked_to, linked-none, linked-more, linked_pass}
+use borrow.Author.Rules.{rules}
+use lib.ListN.{length}
+use mathlib.Core.Logic.{⊎_elim}
+use mathlib.Core.Path.{◌≡◌, sym, ap, ◌∙◌}
+use native.Mathlib.Omega.{arith}
+use Rattle.links.proofs.linking.Goals as goal
+
+pub loop-u-init : goal.loop-u-init
+loop-u-init c =
+    let a = c.args in (search rules, linked-none set_bits a.links.now a.word)
+
+pub loop-u-preserved : goal.loop-u-preserved
+loop-u-preserved c =
+    let a = c.args in
+    let meet = c.meet in (
+      search rules,
+      ⊎_elim
+          (λ w. ap members w.2 ∙ linked-more set_bits a.links.now a.word c.loop-u.u c.loop-u.all c.loop-u.invariant.1 w.1.result (sym meet.ensures ∙ w.0.taken) w.1.ensures)
+          (λ w. ap members w.1 ∙ linked_pass set_bits a.links.now a.word c.loop-u.u c.loop-u.all c.loop-u.invariant.1 (sym meet.ensures ∙ w.0.left))
+          c.if-meet.branch,
+    )
+
+pub returns : goal.returns
+returns c =
+    let a = c.args in
+    c.loop-u.invariant.1 ∙ ap (linked_to set_bits a.links.now a.word) (omega arith)

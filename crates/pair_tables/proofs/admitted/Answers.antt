@@ -1,0 +1,54 @@
+use Prim.Native.Nat.{◌*◌, ◌-◌, ◌^◌, ◌≤◌}
+use native.Mathlib.Omega.{arith}
+use borrow.Author.Rules.{rules}
+use mathlib.Core.Path.{◌≡◌}
+use lib.ListN.{length, get_or}
+use Rattle.bits.specs.Word.{members}
+use Rattle.session.specs.Limits.{max_nodes, word_bits}
+use Rattle.session.proofs.Tables.{below-take}
+use Rattle.pair_tables.specs.Tables.{Admits}
+use Rattle.pair_tables.proofs.Admitting.{Filled, admits-few, filled-start, filled_more, filled-end}
+use Rattle.pair_tables.proofs.admitted.Goals as goal
+use Rattle.pair_tables.proofs.admitted.Goals.{After-admit-count}
+
+-- what the call leaves, of the state u
+put : (c : After-admit-count)
+    → let l = «At-loop-u» in
+    let a = l.before.before.before.before.before.args in
+    Admits a.samples.now (members a.turned l.loop.u) (get_or a.masks.now l.loop.u 0) (get_or a.values.now l.loop.u 0) l.loop.u
+    l.loop.table c.admit-count.result c.admit-count.new.1.1.1.1.1.0
+put c = rw c.has.ensures at c.admit-count.ensures
+
+pub loop-u-init : goal.loop-u-init
+loop-u-init c =
+    let a = c.args in
+    (search rules, search rules, filled-start a.masks.now a.values.now a.turned a.samples.now (search rules) c.requires.masks_value.1)
+
+pub admit-count-requires : goal.admit-count-requires
+admit-count-requires c =
+    let l = c.loop-u in
+    (below-take (2 ^ word_bits) c.args.masks.now c.requires.masks_value.0 l.u (search rules), search rules, omega (arith, l.invariant.2.long, c.requires), search rules)
+
+pub overflow_add-count : goal.overflow_add-count
+overflow_add-count c =
+    let a = c.args in
+    omega (arith, admits-few a.masks.now a.values.now a.turned a.samples.now (put (goal.at.overflow_add-count c).After-admit-count))
+
+pub loop-u-preserved : goal.loop-u-preserved
+loop-u-preserved c =
+    let a = c.args in
+    let e = put (goal.at.loop-u-preserved c).After-admit-count in (
+      search rules,
+      omega (arith, admits-few a.masks.now a.values.now a.turned a.samples.now e),
+      filled_more a.masks.now a.values.now a.turned a.samples.now c.loop-u.invariant.2 e,
+    )
+
+pub shape_of-table : goal.shape_of-table
+shape_of-table c =
+    omega (arith, c.loop-u.invariant.2.long)
+
+pub returns : goal.returns
+returns c =
+    let a = c.args in
+    let end : c.loop-u.u ≡ length a.masks.now = omega arith in
+    filled-end a.masks.now a.values.now a.turned a.samples.now (rw end at c.loop-u.invariant.2)

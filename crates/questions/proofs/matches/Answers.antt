@@ -1,0 +1,52 @@
+-- `matches` meets its contract: where no rule is broken, the mark is the bit that was read.
+use borrow.Author.Rules.{rules}
+use Prim.Native.Nat.{◌-◌}
+use native.Mathlib.Omega.{arith}
+use mathlib.Core.Path.{◌≡◌, sym, ◌∙◌}
+use mathlib.Core.Bool.{true}
+use Rattle.session.specs.Layout.{marks_of, in_layout}
+use Rattle.session.proofs.Decoded.{Bounded, layout_limits}
+use Rattle.questions.proofs.Asked.{Named, pair-passed, answer-refused, answer-accepted, mark_held}
+use Rattle.questions.proofs.matches.Goals as goal
+use Rattle.questions.proofs.matches.Goals.{After-has, Else-broken-ne0}
+
+-- what the rules leave
+passed : (c : Else-broken-ne0)
+    → let a = c.args in
+    (in_layout a.session.now ≡ true) × Named a.session.now a.state a.node
+passed c = pair-passed _ _ _ (sym c.pair_rule-broken.ensures ∙ c.if-broken-ne0.false)
+
+bounded : (c : Else-broken-ne0) → Bounded c.args.session.now
+bounded c = layout_limits _ (passed c).0
+
+-- the mark, as it was read
+read : (c : After-has)
+    → let a = c.args in
+    c.has.result ≡ marks_of a.session.now (a.state - 1) a.node
+read c =
+    let n = (passed «Else-broken-ne0»).1 in
+    c.has.ensures ∙ mark_held _ _ _ (omega (arith, n.some, n.state_held)) n.node_held
+
+pub returns-then-broken-ne0 : goal.returns-then-broken-ne0
+returns-then-broken-ne0 c =
+    answer-refused _ _ c.pair_rule-broken.ensures _ c.if-broken-ne0.true
+
+pub bounds-session-at : goal.bounds-session-at
+bounds-session-at c =
+    omega (arith, (passed (goal.at.bounds-session-at c).Else-broken-ne0).1.node_held, bounded (goal.at.bounds-session-at c).Else-broken-ne0)
+
+pub overflow_sub-state : goal.overflow_sub-state
+overflow_sub-state c =
+    omega (arith, (passed (goal.at.overflow_sub-state c).Else-broken-ne0).1.some)
+
+pub has-requires : goal.has-requires
+has-requires c =
+    let n = (passed (goal.at.has-requires c).Else-broken-ne0).1 in omega (arith, n.some, n.state_held, bounded (goal.at.has-requires c).Else-broken-ne0)
+
+pub returns-then-has : goal.returns-then-has
+returns-then-has c =
+    answer-accepted _ _ c.pair_rule-broken.ensures _ _ c.if-broken-ne0.false (sym c.if-has.true ∙ read (goal.at.returns-then-has c).After-has)
+
+pub returns-else-has : goal.returns-else-has
+returns-else-has c =
+    answer-accepted _ _ c.pair_rule-broken.ensures _ _ c.if-broken-ne0.false (sym c.if-has.false ∙ read (goal.at.returns-else-has c).After-has)

@@ -1,0 +1,35 @@
+-- All indexes are built in tables that are zero; with them the refinement goes to its end.
+use native.Mathlib.Omega.{arith}
+use mathlib.Core.Path.{refl}
+use Rattle.pair_tables.proofs.Zeros.{zeros}
+use Rattle.refinement.proofs.Turns.{sound_below}
+use Rattle.refinement.proofs.Settling.{refining_end}
+use borrow.Author.Rules.{rules}
+use Rattle.session.specs.Limits.{max_nodes}
+use Rattle.bits.specs.Word.{set_bits}
+use Rattle.edge_indexes.specs.Indexes.{starts_size}
+use Rattle.refinement.proofs.refine_indexed.Goals as goal
+
+pub index_starts-requires : goal.index_starts-requires
+index_starts-requires c =
+    let a = c.args in
+    record {
+      edges_len_bound = (omega (arith, c.requires.sound.0.few_edges), c.requires.sound.0.ascend, sound_below a.nodes a.links.now a.edges.now c.requires.sound.0, refl);
+      by_index = zeros starts_size;
+    }
+
+pub index-requires : goal.index-requires
+index-requires c =
+    record {
+      edges_len_bound = (omega (arith, c.requires.sound.0.few_edges), refl, refl);
+      by_index = zeros max_nodes;
+    }
+
+pub index_callers-requires : goal.index_callers-requires
+index_callers-requires c =
+    (omega (arith, c.requires.sound.0.few_states), refl, zeros set_bits)
+
+pub returns : goal.returns
+returns c =
+    let r = c.refine in
+    refining_end _ _ _ c.requires.sound.0 _ _ _ _ _ _ r.ensures.0 (r.ensures.1 (λ none. omega (arith, none, c.index.ensures.heads_long))) c.requires.sound.1 c.requires.settled_len.1

@@ -1,0 +1,84 @@
+-- `all_admitted` meets its contract: the halves that are compared hold the samples.
+use Prim.Native.Nat.{ℕ}
+use borrow.Author.Rules.{rules}
+use native.Mathlib.Omega.{arith}
+use mathlib.Core.Path.{◌≡◌, refl, sym, ap, ◌∙◌}
+use mathlib.Core.List.{List, ◌++◌}
+use lib.ListN.{length, get_or, take, drop, replicate}
+use lib.Seq.{length-take-le}
+use Rattle.simulation.specs.Sets.{Set, all_below}
+use Rattle.simulation.proofs.Sets.{all_make}
+use Rattle.bits.specs.Word.{members}
+use Rattle.session.specs.Limits.{word_bits, max_nodes}
+use Rattle.session.specs.Trigger.{matches, accepts}
+use Rattle.session.specs.Tests.{sparse}
+use Rattle.bits.proofs.Words.{zero-members}
+use Rattle.section_tests.proofs.Unadmitted.{sparse-none, halves_small, sparse-turned}
+use Rattle.sections.proofs.Fills.{front_read, front-inside}
+use Rattle.section_tests.proofs.all_admitted.Goals as goal
+use Rattle.section_tests.proofs.all_admitted.Goals.{After-narrow, After-shared_slice_known-4-1}
+
+abbrev nodes : After-shared_slice_known-4-1 → ℕ
+nodes c = length c.args.marks.now
+
+abbrev zeros : List ℕ
+zeros = replicate max_nodes 0
+
+-- the array has room for them
+room : (c : After-shared_slice_known-4-1) → nodes c ≡ length (take (nodes c) zeros)
+room c = sym (length-take-le (nodes c) zeros c.requires.samples_value.1)
+
+-- the array holds the samples, and they are what is read of it
+held : (c : After-narrow) → c.narrow.new.0 ≡ c.args.samples.now
+held c = c.narrow.ensures ∙ halves_small c.args.samples.now 0 refl c.requires.samples_value.0
+
+samples-read : (c : After-narrow)
+    → let g = «After-shared_slice_known-4-1» in
+    take (nodes g) (c.narrow.new.0 ++ drop (nodes g) zeros) ≡ g.before.before.before.before.args.samples.now
+samples-read c =
+    front_read zeros c.narrow.new.0 c.args.samples.now (nodes «After-shared_slice_known-4-1») (held c) c.requires.samples_len.0
+
+pub returns-then-used-eq0 : goal.returns-then-used-eq0
+returns-then-used-eq0 c =
+    let a = c.args in
+    let test : ℕ → Set = λ u. accepts word_bits (members a.inverted u) (get_or a.masks.now u 0) (get_or a.values.now u 0) in
+    sym
+    (all_make (length a.masks.now) (λ u. sparse a.samples.now a.marks.now (test u) u)
+    (λ u l.
+    sparse-none a.samples.now a.marks.now (test u) u
+    (ap (λ (X : Set). X u) (sym c.requires.used_value) ∙ ap (λ (w : ℕ). members w u) c.if-used-eq0.true ∙ zero-members u)))
+
+pub slice_bounds-narrow-end : goal.slice_bounds-narrow-end
+slice_bounds-narrow-end c =
+    room (goal.at.slice_bounds-narrow-end c).After-shared_slice_known-4-1
+
+pub narrow-requires : goal.narrow-requires
+narrow-requires c =
+    (c.requires.samples_len.0 ∙ room (goal.at.narrow-requires c).After-shared_slice_known-4-1, omega arith)
+
+pub slice_bounds-words-end-2 : goal.slice_bounds-words-end-2
+slice_bounds-words-end-2 c =
+    front-inside c.narrow.new.0 c.args.samples.now (drop (nodes (goal.at.slice_bounds-words-end-2 c).After-shared_slice_known-4-1) zeros) (nodes (goal.at.slice_bounds-words-end-2 c).After-shared_slice_known-4-1) (held (goal.at.slice_bounds-words-end-2 c).After-narrow) c.requires.samples_len.0
+
+pub slice_bounds-both_admitted-end : goal.slice_bounds-both_admitted-end
+slice_bounds-both_admitted-end c =
+    sym (ap length (samples-read (goal.at.slice_bounds-both_admitted-end c).After-narrow) ∙ c.requires.samples_len.0)
+
+pub both_admitted-requires : goal.both_admitted-requires
+both_admitted-requires c =
+    record {
+      samples_len = (ap length (samples-read (goal.at.both_admitted-requires c).After-narrow) ∙ c.requires.samples_len.0, c.requires.samples_len.1, c.requires.samples_len.2);
+      masks_value = c.requires.masks_value;
+      marks_len_bound = c.requires.samples_value.1;
+      used_value = c.requires.used_value;
+    }
+
+pub returns : goal.returns
+returns c =
+    let a = c.args in
+    c.both_admitted.ensures
+    ∙ ap
+    (λ (ss : List ℕ).
+    all_below (length a.masks.now) (λ u. sparse ss a.marks.now (matches word_bits (members c.turned_states.result u) (get_or a.masks.now u 0) (get_or a.values.now u 0)) u))
+    (samples-read (goal.at.returns c).After-narrow)
+    ∙ sparse-turned a.samples.now a.marks.now a.masks.now a.values.now a.inverted c.turned_states.result c.turned_states.ensures

@@ -1,0 +1,92 @@
+use Prim.Native.Nat.{ℕ, ◌-◌, ◌^◌, ◌<◌}
+use borrow.Author.Rules.{rules}
+use native.Mathlib.Omega.{arith}
+use mathlib.Core.Path.{◌≡◌, sym, ap, ◌∙◌}
+use mathlib.Core.Bool.{Bool, not}
+use mathlib.Core.Logic.{⊎_elim}
+use mathlib.Core.List.{List}
+use lib.Bits.{bit_and, and_le_r}
+use lib.ListN.{length, get_or}
+use Rattle.simulation.specs.Sets.{Set}
+use Rattle.bits.specs.Word.{members}
+use Rattle.bits.proofs.Words.{and_again}
+use Rattle.bits.proofs.Gathers.{gathers}
+use Rattle.session.specs.Limits.{word_bits}
+use Rattle.session.specs.Trigger.{matches}
+use Rattle.session.specs.Tests.{sparse}
+use Rattle.session.proofs.Admission.{matches-part}
+use Rattle.session.proofs.Tables.{below-take}
+use Rattle.section_tests.proofs.Unadmitted.{stray, sparse-stray, sparse-same, sparse-none}
+use Rattle.simulation.proofs.Folds.{Folded, fold_start, fold_pass, fold_fault, fold_end}
+use Rattle.section_tests.proofs.all_sparse.Invariants.{admitted}
+use Rattle.section_tests.proofs.all_sparse.Goals as goal
+use Rattle.section_tests.proofs.all_sparse.Goals.{In-loop-u}
+
+-- what the marks that are found say, with the part of the value inside the mask
+tested : (samples marks : List ℕ) (turned : ℕ) (over : Bool) (mask value all u : ℕ) → mask < 2 ^ word_bits → over ≡ members turned u
+    → members all ≡ gathers (length marks) (stray samples marks (matches word_bits over mask (bit_and value mask)))
+    → sparse samples marks (matches word_bits (members turned u) mask value) u ≡ not (members all u)
+tested samples marks turned over mask value all u h t e =
+    let inside : Set = matches word_bits over mask (bit_and value mask) in
+    rw (← t)
+    (sym
+    (sparse-stray samples marks inside all u e
+    ∙ sparse-same samples marks inside (matches word_bits over mask value) (λ x. matches-part word_bits over mask value x h) u))
+
+-- a mask is a word
+small : (c : In-loop-u) → get_or c.args.masks.now c.loop-u.u 0 < 2 ^ word_bits
+small c = below-take (2 ^ word_bits) c.args.masks.now c.requires.masks_value c.loop-u.u (omega arith)
+
+pub loop-u-init : goal.loop-u-init
+loop-u-init c =
+    let a = c.args in
+    fold_start (admitted a.masks.now a.values.now a.turned a.samples.now a.marks.now) (length a.masks.now)
+
+pub overflow_cast-mask : goal.overflow_cast-mask
+overflow_cast-mask c =
+    omega (arith, small (goal.at.overflow_cast-mask c).In-loop-u)
+
+pub overflow_cast-wanted : goal.overflow_cast-wanted
+overflow_cast-wanted c =
+    let a = c.args in
+    omega (arith, small (goal.at.overflow_cast-wanted c).In-loop-u, and_le_r (get_or a.values.now c.loop-u.u 0) (get_or a.masks.now c.loop-u.u 0))
+
+pub strays-stray-requires : goal.strays-stray-requires
+strays-stray-requires c =
+    let a = c.args in record {
+      samples_len = (c.requires.samples_len.0, small (goal.at.strays-stray-requires c).In-loop-u);
+      mask_value = and_again (get_or a.values.now c.loop-u.u 0) (get_or a.masks.now c.loop-u.u 0);
+    }
+
+pub loop-u-preserved : goal.loop-u-preserved
+loop-u-preserved c =
+    let l = c.loop-u in
+    let a = c.args in
+    let P = admitted a.masks.now a.values.now a.turned a.samples.now a.marks.now in
+    let n = length a.masks.now in
+    let mask = get_or a.masks.now l.u 0 in
+    let value = get_or a.values.now l.u 0 in
+    ⊎_elim
+    (λ w.
+    rw w.7
+    (fold_fault P n l.u (omega arith)
+    (tested a.samples.now a.marks.now a.turned w.3.result mask value w.4.result l.u (small (goal.at.loop-u-preserved c).In-loop-u) w.3.ensures w.4.ensures
+    ∙ ap not (sym w.5.ensures ∙ w.6.taken))))
+    (⊎_elim
+    (λ w.
+    rw w.7
+    (fold_pass P n l.faults l.u l.invariant (omega arith)
+    (tested a.samples.now a.marks.now a.turned w.3.result mask value w.4.result l.u (small (goal.at.loop-u-preserved c).In-loop-u) w.3.ensures w.4.ensures
+    ∙ ap not (sym w.5.ensures ∙ w.6.left))))
+    (λ w.
+    rw w.1
+    (fold_pass P n l.faults l.u l.invariant (omega arith)
+    (sparse-none a.samples.now a.marks.now (matches word_bits (members a.turned l.u) mask value) l.u (sym (c.requires.by_index l.u (omega arith)) ∙ sym c.has.ensures ∙ w.0.left)))))
+    c.if-has.branch
+
+pub returns : goal.returns
+returns c =
+    let a = c.args in
+    let l = c.loop-u in
+    fold_end (admitted a.masks.now a.values.now a.turned a.samples.now a.marks.now) (length a.masks.now) l.faults l.u
+    l.invariant (omega arith)

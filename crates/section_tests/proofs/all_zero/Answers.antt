@@ -1,0 +1,10 @@
+-- `all_zero` meets its contract: there is no member in the union just where each word is zero.
+use borrow.Author.Rules.{rules}
+use Rattle.bits.proofs.Gathers.{gathered_zero}
+use Rattle.session.specs.Layout.{below}
+use Rattle.section_tests.proofs.all_zero.Goals as goal
+
+pub returns : goal.returns
+unfolding below
+returns c =
+    gathered_zero c.gathered.result c.args.words.now c.gathered.ensures

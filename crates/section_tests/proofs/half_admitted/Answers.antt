@@ -1,0 +1,96 @@
+-- `half_admitted` meets its contract: the halves that are compared hold the marks of these states.
+use Prim.Native.Nat.{ℕ, ◌+◌, ◌/◌, ◌^◌}
+use borrow.Author.Rules.{rules}
+use native.Mathlib.Omega.{arith}
+use mathlib.Core.Path.{◌≡◌, sym, ap, subst, ◌∙◌}
+use mathlib.Core.Bool.{Bool}
+use mathlib.Core.List.{List, ◌++◌}
+use lib.ListN.{length, get_or, take, drop, replicate}
+use lib.Seq.{length-take-le}
+use Rattle.simulation.specs.Sets.{Set, all_below}
+use Rattle.simulation.proofs.Sets.{all_make}
+use Rattle.simulation.proofs.Edges.{all_same}
+use Rattle.bits.specs.Word.{members}
+use Rattle.bits.proofs.Words.{zero-members, shifted_members}
+use Rattle.bits.proofs.Gathers.{gathers}
+use Rattle.session.specs.Limits.{word_bits, max_nodes}
+use Rattle.session.specs.Trigger.{matches}
+use Rattle.session.specs.Tests.{sparse, halves}
+use Rattle.section_tests.proofs.Unadmitted.{sparse-none, halves_long, sparse-half, used_half, admitted}
+use Rattle.sections.proofs.Fills.{front_read, front-inside}
+use Rattle.section_tests.proofs.half_admitted.Goals as goal
+use Rattle.section_tests.proofs.half_admitted.Goals.{After-narrow, After-shared_slice_known-4-1}
+
+abbrev zeros : List ℕ
+zeros = replicate max_nodes 0
+
+-- the array has room for them
+room : (c : After-shared_slice_known-4-1) → let n = length c.args.marks.now in n ≡ length (take n zeros)
+room c = sym (length-take-le (length c.args.marks.now) zeros c.requires.marks_len_bound.0)
+
+-- what is read of the array
+signs_read : (c : After-narrow)
+    → let a = c.args in
+    let n = length a.marks.now in
+    take n (c.narrow.new.0 ++ drop n zeros) ≡ halves a.first a.marks.now
+signs_read c =
+    let a = c.args in
+    front_read zeros c.narrow.new.0 (halves a.first a.marks.now) (length a.marks.now) c.narrow.ensures
+    (halves_long a.marks.now a.first)
+
+pub returns-then-some-eq0 : goal.returns-then-some-eq0
+returns-then-some-eq0 c =
+    let a = c.args in
+    let first = a.first in
+    sym
+    (all_make (length a.masks.now) (admitted a.samples.now a.marks.now a.turned a.masks.now a.values.now first)
+    (λ u l.
+    sparse-none a.samples.now a.marks.now (matches word_bits (members a.turned (first + u)) (get_or a.masks.now u 0) (get_or a.values.now u 0))
+    (first + u)
+    (ap (λ (X : Set). X (first + u)) (sym c.requires.used_value)
+    ∙ sym (shifted_members first a.used u)
+    ∙ ap (λ (w : ℕ). members w u) c.if-some-eq0.true
+    ∙ zero-members u)))
+
+pub slice_bounds-narrow-end : goal.slice_bounds-narrow-end
+slice_bounds-narrow-end c =
+    room (goal.at.slice_bounds-narrow-end c).After-shared_slice_known-4-1
+
+pub narrow-requires : goal.narrow-requires
+narrow-requires c =
+    (room (goal.at.narrow-requires c).After-shared_slice_known-4-1, omega (arith, c.requires.marks_len_bound.1))
+
+pub slice_bounds-signs-end-2 : goal.slice_bounds-signs-end-2
+slice_bounds-signs-end-2 c =
+    let a = c.args in
+    front-inside c.narrow.new.0 (halves a.first a.marks.now) (drop (length a.marks.now) zeros) (length a.marks.now) c.narrow.ensures
+    (halves_long a.marks.now a.first)
+
+pub slice_bounds-all_sparse-end : goal.slice_bounds-all_sparse-end
+slice_bounds-all_sparse-end c =
+    let a = c.args in
+    sym (ap length (signs_read (goal.at.slice_bounds-all_sparse-end c).After-narrow) ∙ halves_long a.marks.now a.first)
+
+pub all_sparse-requires : goal.all_sparse-requires
+all_sparse-requires c =
+    let a = c.args in record {
+      samples_len = (c.requires.samples_len.0 ∙ sym (ap length (signs_read (goal.at.all_sparse-requires c).After-narrow) ∙ halves_long a.marks.now a.first), c.requires.samples_len.1, c.requires.samples_len.2);
+      masks_value = c.requires.masks_value;
+      by_index = λ u l.
+          subst (λ (ms : List ℕ). members (a.used / 2 ^ a.first) u ≡ gathers (length ms) (λ v. members (get_or ms v 0)) u) (sym (signs_read (goal.at.all_sparse-requires c).After-narrow))
+          (used_half a.marks.now a.first a.used c.requires.used_value u l);
+    }
+
+pub returns : goal.returns
+returns c =
+    let a = c.args in
+    let first = a.first in
+    let test : ℕ → ℕ → Set = λ turned u. matches word_bits (members turned u) (get_or a.masks.now u 0) (get_or a.values.now u 0) in
+    c.all_sparse.ensures
+    ∙ ap (λ (ms : List ℕ). all_below (length a.masks.now) (λ u. sparse a.samples.now ms (test (a.turned / 2 ^ first) u) u)) (signs_read (goal.at.returns c).After-narrow)
+    ∙ all_same (length a.masks.now) (λ u. sparse a.samples.now (halves first a.marks.now) (test (a.turned / 2 ^ first) u) u)
+    (admitted a.samples.now a.marks.now a.turned a.masks.now a.values.now first)
+    (λ u l.
+    sparse-half a.marks.now first a.samples.now (test (a.turned / 2 ^ first) u) u (omega (arith, c.requires.samples_len.2))
+    ∙ ap (λ (b : Bool). sparse a.samples.now a.marks.now (matches word_bits b (get_or a.masks.now u 0) (get_or a.values.now u 0)) (first + u))
+    (shifted_members first a.turned u))

@@ -1,0 +1,18 @@
+-- `copy_words` meets its contract: the places before i hold the words of the source.
+use Prim.Native.Nat.{ℕ, ◌-◌}
+use borrow.Author.Rules.{rules}
+use native.Mathlib.Omega.{arith}
+use mathlib.Core.Path.{◌∙◌, ap, refl, sym}
+use lib.ListN.{length, get_or}
+use Rattle.session.specs.Layout.{table}
+use Rattle.session.proofs.Tables.{table_of}
+use Rattle.sections.proofs.Fills.{Filled, fill_start, fill_step, fill_end}
+use Rattle.sections.proofs.copy_words.Given as goal
+
+abbrev pub invariant-loop-i : goal.invariant-loop-i
+invariant-loop-i l =
+    Filled (λ j. get_or l.source j 0) l.initial.place l.place l.i
+
+abbrev pub decreases-loop-i : goal.decreases-loop-i
+decreases-loop-i l =
+    length l.initial.place - l.i

@@ -1,0 +1,24 @@
+-- `narrow` meets its contract: the places before i hold halves of the source's words.
+use Prim.Native.Nat.{ℕ, ◌-◌, ◌/◌, ◌%◌, ◌^◌}
+use borrow.Author.Rules.{rules}
+use native.Mathlib.Omega.{arith}
+use mathlib.Core.List.{List}
+use mathlib.Core.Path.{◌∙◌, ap, sym}
+use lib.Bits.{bit_and, and_mask}
+use lib.ListN.{length, get_or}
+use Rattle.session.specs.Layout.{table}
+use Rattle.sections.proofs.Fills.{Filled, fill_start, fill_step, fill_end}
+use Rattle.bits.specs.Word.{half_bits}
+use Rattle.sections.proofs.narrow.Given as goal
+
+-- the half that is taken of a word
+abbrev pub half : List ℕ → ℕ → ℕ → ℕ
+half source from j = get_or source j 0 / 2 ^ from % 2 ^ half_bits
+
+abbrev pub invariant-loop-i : goal.invariant-loop-i
+invariant-loop-i l =
+    Filled (half l.source l.from) l.initial.place l.place l.i
+
+abbrev pub decreases-loop-i : goal.decreases-loop-i
+decreases-loop-i l =
+    length l.initial.place - l.i

@@ -1,0 +1,8 @@
+-- The part from a place on.
+use Rattle.session.proofs.Tables.{part-from}
+use borrow.Author.Rules.{rules}
+use Rattle.session_parts.proofs.part_of.Goals as goal
+
+pub returns : goal.returns
+returns c =
+    part-from c.args.session.now c.args.at c.args.used

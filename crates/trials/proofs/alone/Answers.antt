@@ -1,0 +1,54 @@
+use Prim.Native.Nat.{ℕ, ◌-◌, ◌/◌, ◌%◌, ◌<◌, ◌≤◌}
+use Rattle.trials.proofs.Lonely.{alone_to, alone-none, alone-more, alone-found, alone-all}
+use Rattle.editing.specs.Steps.{fresh_among}
+use Rattle.refinement.proofs.Systems.{held_sound}
+use Rattle.session.proofs.Decoded.{layout-facts}
+use Rattle.session.specs.Layout.{trigger_of, in_layout}
+use borrow.Author.Rules.{rules}
+use lib.ListN.{length, get_or}
+use mathlib.Core.Bool.{true, false}
+use mathlib.Core.List.{List}
+use mathlib.Core.Logic.{⊎_elim}
+use mathlib.Core.Path.{◌≡◌, refl, sym, ap, subst, ◌∙◌}
+use native.Mathlib.Omega.{arith}
+use Rattle.session.specs.Limits.{max_nodes}
+use Rattle.trials.proofs.alone.Goals as goal
+
+pub loop-k-init : goal.loop-k-init
+loop-k-init c =
+    let a = c.args in (search rules, λ h. alone-none a.session.now h a.start a.word)
+
+pub fresh_among-requires : goal.fresh_among-requires
+fresh_among-requires c =
+    let xs = c.args.session.now in
+    let k = c.loop-k.k in
+    (c.requires, c.turned_of-turned.ensures, omega (arith, (held_sound xs c.requires (trigger_of xs).links _ refl c.edges_of-edges.ensures).starts k c.loop-k-test.true, (layout-facts xs c.requires).counts.1))
+
+pub returns-then-fresh_among : goal.returns-then-fresh_among
+returns-then-fresh_among c =
+    let a = c.args in
+    let k = c.loop-k.k in
+    let is = c.edges_of-edges.ensures in
+    alone-found a.session.now c.requires a.start a.word k (subst (λ (es : List ℕ). k < length es) is c.loop-k-test.true)
+    (subst (λ (es : List ℕ). get_or es k 0 % max_nodes ≡ a.start) is c.if-edge-start.true)
+    (subst (λ (es : List ℕ). fresh_among a.session.now a.word (get_or es k 0 / max_nodes) ≡ true) is (sym c.fresh_among.ensures ∙ c.if-fresh_among.true))
+
+pub loop-k-preserved : goal.loop-k-preserved
+loop-k-preserved c =
+    let a = c.args in
+    let k = c.loop-k.k in
+    let is = c.edges_of-edges.ensures in (
+      search rules,
+      λ i.
+          alone-more a.session.now i a.start a.word k (c.loop-k.invariant.1 i)
+          (λ at-end.
+          ⊎_elim
+          (λ w. subst (λ (es : List ℕ). fresh_among a.session.now a.word (get_or es k 0 / max_nodes) ≡ false) is (sym w.1.ensures ∙ w.2.left))
+          (λ w. absurd (w.left (subst (λ (es : List ℕ). get_or es k 0 % max_nodes ≡ a.start) (sym is) at-end)))
+          c.if-edge-start.branch),
+    )
+
+pub returns : goal.returns
+returns c =
+    let a = c.args in
+    alone-all a.session.now c.requires a.start a.word c.loop-k.k (omega (arith, c.loop-k.invariant.0, c.loop-k-test.false) ∙ ap length c.edges_of-edges.ensures) (c.loop-k.invariant.1 c.requires)

@@ -1,0 +1,61 @@
+-- The seeds are fresh, and the trial set is grown from them.
+use borrow.Author.Rules.{rules}
+use native.Mathlib.Omega.{arith}
+use mathlib.Core.Path.{refl, ◌∙◌}
+use lib.ListN.{length-set, replicate}
+use Rattle.session.proofs.Decoded.{Bounded, LayoutFacts, layout_limits, layout-facts}
+use Rattle.pair_tables.proofs.Zeros.{zeros}
+use Rattle.refinement.proofs.Systems.{held_sound}
+use Rattle.trials.proofs.Trying.{seeded, seeds-fit, trial-held}
+use Rattle.session.specs.Limits.{max_nodes}
+use Rattle.worklist.specs.Waiting.{waiting_words}
+use Rattle.trials.proofs.try_pairs.Goals as goal
+use Rattle.trials.proofs.try_pairs.Goals.{After-shared_slice_known-4-1, Start}
+
+abbrev bounded : (c : After-shared_slice_known-4-1) → Bounded c.args.session.now
+bounded c = layout_limits c.args.session.now c.requires.session_value.0
+
+abbrev facts : (c : Start) → LayoutFacts c.args.session.now
+facts c = layout-facts c.args.session.now c.requires.session_value.0
+
+pub bounds-session-1 : goal.bounds-session-1
+bounds-session-1 c =
+    omega (arith, bounded (goal.at.bounds-session-1 c).After-shared_slice_known-4-1)
+
+pub overflow_cast-nodes : goal.overflow_cast-nodes
+overflow_cast-nodes c =
+    omega (arith, bounded c)
+
+pub fresh_pairs-requires : goal.fresh_pairs-requires
+fresh_pairs-requires c =
+    (c.requires.session_value.0, refl, zeros max_nodes)
+
+pub put_in-requires : goal.put_in-requires
+put_in-requires c =
+    (refl, omega (arith, c.requires.session_value.1, (facts (goal.at.put_in-requires c).Start).graph.few))
+
+pub bounds-table-start : goal.bounds-table-start
+bounds-table-start c =
+    omega (arith, c.requires.session_value.1, c.requires.session_value.2, (facts (goal.at.bounds-table-start c).Start).graph.few)
+
+pub grow-requires : goal.grow-requires
+grow-requires c =
+    let a = c.args in
+    let f = facts (goal.at.grow-requires c).Start in
+    let fresh = c.fresh_pairs.ensures in record {
+      fresh_len = (fresh.long, length-set a.table.now a.start a.seeds ∙ c.requires.session_value.2, c.put_in.ensures.0);
+      sound = (held_sound a.session.now c.requires.session_value.0 _ _ c.links_of.ensures c.edges_of.ensures, rw c.edges_of.ensures c.requires.indexed.0);
+      by_index = λ u v e.
+          let i = fresh.inside u v e in
+          (rw c.links_of.ensures (omega (arith, i.0, f.trigger.links)), omega (arith, i.1, f.counts.1));
+      by_index_2 = seeds-fit a.session.now c.requires.session_value.0 a.start c.requires.indexed.1.0 a.seeds c.requires.session_value.1 c.requires.indexed.1.1 a.table.now c.requires.session_value.2 c.requires.session_value.3
+          c.fresh_pairs.new.1.0 (replicate waiting_words 0) c.put_in.new.0 fresh c.put_in.ensures.1;
+    }
+
+pub returns : goal.returns
+returns c =
+    let a = c.args in
+    λ b is.
+    trial-held a.session.now c.requires.session_value.0 a.start b _ _ _ _ _ c.links_of.ensures c.edges_of.ensures c.fresh_pairs.ensures
+    (seeded a.session.now c.requires.session_value.0 a.start b a.seeds c.requires.session_value.1 is a.table.now c.requires.session_value.2 c.requires.session_value.3)
+    c.grow.ensures

@@ -1,0 +1,18 @@
+-- `call_all` meets its contract: the words below i gained the nodes of their parts.
+use Prim.Native.Nat.{ℕ, ◌+◌, ◌-◌, ◌*◌, ◌≤◌}
+use borrow.Author.Rules.{rules}
+use native.Mathlib.Omega.{arith}
+use mathlib.Core.Path.{◌≡◌, ap, ◌∙◌}
+use lib.ListN.{length, length-set}
+use Rattle.worklist.specs.Waiting.{waits, waiting_words}
+use Rattle.worklist.proofs.Occupied.{called, called-none, called-step, called-all}
+use Rattle.bits.specs.Word.{set_bits}
+use Rattle.worklist.proofs.call_all.Given as goal
+
+abbrev pub invariant-loop-i : goal.invariant-loop-i
+invariant-loop-i l =
+    (l.i ≤ waiting_words) × (length l.waiting ≡ waiting_words) × ((v : ℕ) → waits l.waiting v ≡ called l.initial.waiting l.table l.i v)
+
+abbrev pub decreases-loop-i : goal.decreases-loop-i
+decreases-loop-i l =
+    waiting_words - l.i

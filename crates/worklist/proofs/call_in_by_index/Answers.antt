@@ -1,0 +1,62 @@
+use Prim.Native.Nat.{ℕ, ◌-◌}
+use Rattle.bits.specs.Word.{overlaps}
+use Rattle.worklist.proofs.CalledIn.{Calling, calling_none, calling_more, calling_pass, calling_done}
+use Rattle.edge_indexes.proofs.Incoming.{chained_less}
+use Rattle.session.proofs.Tables.{below-take}
+use Rattle.simulation.specs.Sets.{Set}
+use borrow.Author.Rules.{rules}
+use lib.ListN.{length, get_or}
+use mathlib.Core.List.{List}
+use mathlib.Core.Logic.{⊎_elim}
+use mathlib.Core.Path.{◌≡◌, sym, ap, subst, ◌∙◌}
+use native.Mathlib.Omega.{arith}
+use Rattle.session.specs.Limits.{edge_numbers}
+use Rattle.worklist.specs.Waiting.{waiting_words}
+use Rattle.worklist.proofs.call_in_by_index.Goals as goal
+
+pub overflow_cast-next : goal.overflow_cast-next
+overflow_cast-next c =
+    omega (arith, c.shared_slice_known-5-1.given c.args.node)
+
+pub loop-next-init : goal.loop-next-init
+loop-next-init c =
+    (search rules, calling_none c.requires.edges_value.1 (λ w. overlaps (get_or c.args.table.now w 0) c.args.word) c.args.node c.args.waiting.now (omega arith))
+
+pub overflow_cast-start : goal.overflow_cast-start
+overflow_cast-start c =
+    omega (arith, c.shared_slice_known-in-loop-next-1.given (c.loop-next.next - 1))
+
+pub offset_bounds-table-start : goal.offset_bounds-table-start
+offset_bounds-table-start c =
+    omega (arith, below-take edge_numbers c.args.edges.now c.requires.edges_value.0 (c.loop-next.next - 1) (omega arith))
+
+pub bounds-table-start : goal.bounds-table-start
+bounds-table-start c =
+    omega (arith, c.requires.waiting_len.3, below-take edge_numbers c.args.edges.now c.requires.edges_value.0 (c.loop-next.next - 1) (omega arith))
+
+pub put_in-requires : goal.put_in-requires
+put_in-requires c =
+    (search rules, omega (arith, below-take edge_numbers c.args.edges.now c.requires.edges_value.0 (c.loop-next.next - 1) (omega arith)))
+
+pub overflow_cast-next-in-loop-next : goal.overflow_cast-next-in-loop-next
+overflow_cast-next-in-loop-next c =
+    omega (arith, c.shared_slice_known-in-loop-next-3-1.given (c.loop-next.next - 1))
+
+pub loop-next-smaller : goal.loop-next-smaller
+loop-next-smaller c =
+    chained_less c.requires.edges_value.1 c.loop-next.invariant.1.chain c.loop-next-test.true
+
+pub loop-next-preserved : goal.loop-next-preserved
+loop-next-preserved c =
+    let meet = c.meet in
+    let P : Set = λ w. overlaps (get_or c.args.table.now w 0) c.args.word in (
+      ⊎_elim (λ w. ap length w.5 ∙ w.2.ensures.0) (λ w. ap length w.1 ∙ c.loop-next.invariant.0) c.if-meet.branch,
+      ⊎_elim
+          (λ w. subst (λ (ws : List ℕ). Calling c.args.edges.now P c.args.node c.args.waiting.now ws (get_or c.args.nexts.now (c.loop-next.next - 1) 0)) (sym w.5) (calling_more c.requires.edges_value.1 P c.loop-next.invariant.1 c.loop-next-test.true (sym meet.ensures ∙ w.0.taken) w.2.ensures.1))
+          (λ w. subst (λ (ws : List ℕ). Calling c.args.edges.now P c.args.node c.args.waiting.now ws (get_or c.args.nexts.now (c.loop-next.next - 1) 0)) (sym w.1) (calling_pass c.requires.edges_value.1 P c.loop-next.invariant.1 c.loop-next-test.true (sym meet.ensures ∙ w.0.left)))
+          c.if-meet.branch,
+    )
+
+pub returns : goal.returns
+returns c =
+    (search rules, calling_done (rw c.loop-next-test.false at c.loop-next.invariant.1))

@@ -1,0 +1,32 @@
+-- `call_one` meets its contract: the start is put in where the edge ends at the node and the table passes.
+use Rattle.bits.specs.Word.{overlaps}
+use Rattle.worklist.proofs.CalledIn.{one_in, one_out, ends_elsewhere, start_fails}
+use Rattle.simulation.specs.Sets.{Set}
+use borrow.Author.Rules.{rules}
+use lib.ListN.{get_or}
+use mathlib.Core.Path.{sym, ◌∙◌}
+use Rattle.worklist.proofs.call_one.Goals as goal
+use Rattle.worklist.proofs.call_one.Goals.{Start}
+
+-- the table has a state of the word
+abbrev test : Start → Set
+test c = λ w. overlaps (get_or c.args.table.now w 0) c.args.word
+
+pub returns-then-meet : goal.returns-then-meet
+returns-then-meet c =
+    let a = c.args in
+    let P = test (goal.at.returns-then-meet c).Start in
+    let put = c.put_in in
+    (put.ensures.0, one_in a.edge a.node P a.waiting.now put.new.0 c.if-edge-node.true (sym c.meet.ensures ∙ c.if-meet.true) put.ensures.1)
+
+pub returns-else-meet : goal.returns-else-meet
+returns-else-meet c =
+    let a = c.args in
+    let P = test (goal.at.returns-else-meet c).Start in
+    (c.requires.0, one_out a.edge a.node P a.waiting.now (start_fails a.edge a.node P a.waiting.now (sym c.meet.ensures ∙ c.if-meet.false)))
+
+pub returns-else-edge-node : goal.returns-else-edge-node
+returns-else-edge-node c =
+    let a = c.args in
+    let P = test (goal.at.returns-else-edge-node c).Start in
+    (c.requires.0, one_out a.edge a.node P a.waiting.now (ends_elsewhere a.edge a.node P a.waiting.now c.if-edge-node.false))
