@@ -12,13 +12,12 @@ use Rattle.answer_lines.proofs.put_report.Goals as goal
 use Rattle.answer_lines.proofs.put_report.Goals.{After-put_head-next}
 
 -- the kind and the firing, as the line has them
-headed : (c : After-put_head-next) → let s = «Start» in
-    Placed s.args.out.now s.args.at (digits 2 128 ++ digits 2 (cond s.args.fires 1 0)) c.put_head-next.new.0 c.put_head-next.result
+headed : (c : After-put_head-next) → Placed c.args.out.now c.args.at (digits 2 128 ++ digits 2 (cond c.args.fires 1 0)) c.put_head-next.new.out c.put_head-next.result
 headed c = rw (bool_number c.args.fires) at c.put_head-next.ensures
 
 pub put_pair-requires : goal.put_pair-requires
 put_pair-requires c =
-    room_after c.args.out.now c.args.at (digits 2 128 ++ digits 2 (cond c.args.fires 1 0)) c.put_head-next.new.0 c.put_head-next.result 9
+    room_after c.args.out.now c.args.at (digits 2 128 ++ digits 2 (cond c.args.fires 1 0)) c.put_head-next.new.out c.put_head-next.result 9
     (omega (arith, c.requires, pair-long 2 128 (cond c.args.fires 1 0))) (headed (goal.at.put_pair-requires c).After-put_head-next)
 
 pub returns : goal.returns

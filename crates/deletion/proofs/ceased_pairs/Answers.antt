@@ -14,7 +14,7 @@ abbrev bounded : (c : After-shared_slice_known-4-1) → Bounded c.args.session.n
 bounded c = layout_limits c.args.session.now c.requires.0
 
 -- the marks are saved whole
-saved : (c : After-copy_words) → c.copy_words.new.0 ≡ take max_nodes (drop marks_at c.args.session.now)
+saved : (c : After-copy_words) → c.copy_words.new.place ≡ take max_nodes (drop marks_at c.args.session.now)
 saved c = c.copy_words.ensures ∙ c.marks_of.ensures
 
 pub bounds-session-0 : goal.bounds-session-0
@@ -40,9 +40,9 @@ pairs_in-requires c =
       b.few_states,
       b.few_nodes,
       omega (arith, b.few_nodes, taken.0),
-      gone-states c.args.session.now c.requires.0 _ c.args.table.now c.take_away.new.0 (saved (goal.at.pairs_in-requires c).After-copy_words) taken.1,
+      gone-states c.args.session.now c.requires.0 _ c.args.table.now c.take_away.new.table (saved (goal.at.pairs_in-requires c).After-copy_words) taken.1,
     )
 
 pub returns : goal.returns
 returns c =
-    c.pairs_in.ensures ∙ gone-counted c.args.session.now c.requires.0 _ c.args.table.now c.take_away.new.0 (saved (goal.at.returns c).After-copy_words) c.take_away.ensures.1
+    c.pairs_in.ensures ∙ gone-counted c.args.session.now c.requires.0 _ c.args.table.now c.take_away.new.table (saved (goal.at.returns c).After-copy_words) c.take_away.ensures.1

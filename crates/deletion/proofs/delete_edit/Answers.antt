@@ -18,21 +18,21 @@ use Rattle.deletion.proofs.delete_edit.Goals as goal
 use Rattle.deletion.proofs.delete_edit.Goals.{After-cease, After-copy_words, After-remove_edge}
 
 -- the session without the edge
-moved : (c : After-remove_edge) → (let s = «Start» in let xs = s.args.session.now in
-    Left (trigger_of xs) (edited deletion (graph_of xs) s.args.start s.args.end) (marks_of xs) xs c.remove_edge.new.0)
+moved : (c : After-remove_edge) → (let xs = c.args.session.now in
+    Left (trigger_of xs) (edited deletion (graph_of xs) c.args.start c.args.end) (marks_of xs) xs c.remove_edge.new.session)
 moved c = c.remove_edge.ensures
 
-layout : (c : After-remove_edge) → in_layout c.remove_edge.new.0 ≡ true
+layout : (c : After-remove_edge) → in_layout c.remove_edge.new.session ≡ true
 layout c = deleted_layout c.args.session.now c.args.start c.args.end c.requires.0 c.requires.1 _ (moved c)
 
-inside : (c : After-remove_edge) → c.args.start < nodes (graph_of c.remove_edge.new.0)
+inside : (c : After-remove_edge) → c.args.start < nodes (graph_of c.remove_edge.new.session)
 inside c = deleted_start c.args.session.now c.args.start c.args.end c.requires.0 c.requires.1 _ (moved c)
 
-saved : (c : After-copy_words) → c.copy_words.new.0 ≡ take max_nodes (drop marks_at c.remove_edge.new.0)
+saved : (c : After-copy_words) → c.copy_words.new.place ≡ take max_nodes (drop marks_at c.remove_edge.new.session)
 saved c = c.copy_words.ensures ∙ c.marks_of.ensures
 
 -- what refinement leaves
-left : (c : After-cease) → let i = «Start» in Ceased i.remove-edge.last.0 i.before.before.before.before.args.start c.cease.new.1.1.0
+left : (c : After-cease) → Ceased c.remove_edge.new.session c.args.start c.cease.new.table
 left c = c.cease.ensures
 
 pub remove_edge-requires : goal.remove_edge-requires
@@ -59,7 +59,7 @@ marks_of-requires c =
 
 pub copy_words-requires : goal.copy_words-requires
 copy_words-requires c =
-    ap length c.marks_of.ensures ∙ marks-long c.remove_edge.new.0 (layout (goal.at.copy_words-requires c).After-remove_edge) ∙ sym c.requires.2
+    ap length c.marks_of.ensures ∙ marks-long c.remove_edge.new.session (layout (goal.at.copy_words-requires c).After-remove_edge) ∙ sym c.requires.2
 
 pub cease-requires : goal.cease-requires
 cease-requires c =
@@ -81,6 +81,6 @@ pub returns : goal.returns
 returns c =
     let a = c.args in (
       deleted_stored a.session.now a.start a.end c.requires.0 c.requires.1 _ (moved (goal.at.returns c).After-remove_edge) _ (left (goal.at.returns c).After-cease)
-          _ c.store_marks.new.0 c.ceased_pairs-trials.ensures c.store_marks.ensures,
+          _ c.store_marks.new.session c.ceased_pairs-trials.ensures c.store_marks.ensures,
       saved-before deletion a.session.now a.start a.end c.requires.0 c.requires.1 _ (moved (goal.at.returns c).After-remove_edge) _ _ (saved (goal.at.returns c).After-copy_words),
     )

@@ -25,11 +25,11 @@ session c = c.args.session.now
 layout : (c : Else-broken-ne0) → in_layout (session c) ≡ true
 layout c = let a = c.args in (edit-passed (kind_of a.inserts) a.session.now (length a.changes.now) a.start a.end (passed c)).0
 
-left-layout : (c : After-edit_proper-effect) → in_layout c.edit_proper-effect.new.0 ≡ true
+left-layout : (c : After-edit_proper-effect) → in_layout c.edit_proper-effect.new.session ≡ true
 left-layout c =
     let a = c.args in
     let w = edit-passed (kind_of a.inserts) a.session.now (length a.changes.now) a.start a.end (passed «Else-broken-ne0») in
-    called-layout (kind_of a.inserts) (session «Else-broken-ne0») a.start a.end w.0 w.2 c.edit_proper-effect.result.trials c.edit_proper-effect.new.0 c.edit_proper-effect.ensures.0
+    called-layout (kind_of a.inserts) (session «Else-broken-ne0») a.start a.end w.0 w.2 c.edit_proper-effect.result.trials c.edit_proper-effect.new.session c.edit_proper-effect.ensures.0
 
 pub returns-then-broken-ne0 : goal.returns-then-broken-ne0
 returns-then-broken-ne0 c =
@@ -52,7 +52,7 @@ pub returns-then-effect : goal.returns-then-effect
 returns-then-effect c =
     let a = c.args in
     let w = edit-passed (kind_of a.inserts) a.session.now (length a.changes.now) a.start a.end (passed (goal.at.returns-then-effect c).Else-broken-ne0) in
-    let xs' = c.edit_proper-effect.new.0 in
+    let xs' = c.edit_proper-effect.new.session in
     record {
       refuses = λ bad. absurd (bad (passed (goal.at.returns-then-effect c).Else-broken-ne0));
       accepts = λ ok.
@@ -73,6 +73,6 @@ returns c =
     record {
       refuses = λ bad. absurd (bad (passed (goal.at.returns c).Else-broken-ne0));
       accepts = λ ok.
-          called-carried (kind_of a.inserts) (session (goal.at.returns c).Else-broken-ne0) a.start a.end w.0 w.2 c.edit_proper-effect.result.trials c.edit_proper-effect.new.0 c.edit_proper-effect.ensures.0
-          (marked c.edit_proper-effect.new.1.1.1.1.0) (c.edit_proper-effect.ensures.1.saved c.if-effect.false) _ _ _ c.report.ensures;
+          called-carried (kind_of a.inserts) (session (goal.at.returns c).Else-broken-ne0) a.start a.end w.0 w.2 c.edit_proper-effect.result.trials c.edit_proper-effect.new.session c.edit_proper-effect.ensures.0
+          (marked c.edit_proper-effect.new.before) (c.edit_proper-effect.ensures.1.saved c.if-effect.false) _ _ _ c.report.ensures;
     }

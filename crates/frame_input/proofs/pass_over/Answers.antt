@@ -43,15 +43,14 @@ falls c =
     let past = gathered_at (block «At-loop-at») l.front l.line l.at g.new.0 g.result.used g.result.at g.result.ended (on c).0 g.ensures in
     omega (arith, past.0, past.1)
 
-inside : (c : After-gather-gathered) → c.gather-gathered.result.used ≤ length c.gather-gathered.new.0
+inside : (c : After-gather-gathered) → c.gather-gathered.result.used ≤ length c.gather-gathered.new.front
 inside c = let g = c.gather-gathered in omega (arith, keeps-inside _ _ _ _ _ g.ensures.front, g.auto.0)
 
 -- what the answer left, in the rest of the output
 abbrev left : After-answer_line-n → Memory
 left c = let t = c.answer_line-n.new in memory t.0 t.1.0 t.1.1.0 t.1.1.1.0 t.1.1.1.1.1.0
 
-same : (c : After-answer_line-n) → let a = «After-gather-arg-1» in
-    SameLengths (part (block a.before.before.before.before) (begin a.before.before.before.before) (here a.before.before.before.before) (upto a.before.before.before.before) (on a) a.gather.new.0 a.gather.result.used a.gather.result.at) (left c)
+same : (c : After-answer_line-n) → SameLengths (part (block «After-slice_known-5-1») (begin «After-slice_known-5-1») (here «After-slice_known-5-1») (upto «After-slice_known-5-1») (on «After-gather-arg-1») c.gather-gathered.new.front c.gather-gathered.result.used c.gather-gathered.result.at) (left c)
 same c =
     let k = c.answer_line-n.auto in
     record { counts = k.0; words = k.1.0; session = k.1.1.0; room = k.1.1.1.0; out = k.1.1.1.1.1.0 }
@@ -82,11 +81,11 @@ slice_bounds-answer_line-start c =
 
 pub answer_line-n-requires : goal.answer_line-n-requires
 answer_line-n-requires c =
-    part-passed (block (goal.at.answer_line-n-requires c).At-loop-at) (begin (goal.at.answer_line-n-requires c).At-loop-at) (here (goal.at.answer_line-n-requires c).At-loop-at) (upto (goal.at.answer_line-n-requires c).At-loop-at) (on (goal.at.answer_line-n-requires c).After-gather-gathered) c.gather-gathered.new.0 c.gather-gathered.result.used c.gather-gathered.result.at
+    part-passed (block (goal.at.answer_line-n-requires c).At-loop-at) (begin (goal.at.answer_line-n-requires c).At-loop-at) (here (goal.at.answer_line-n-requires c).At-loop-at) (upto (goal.at.answer_line-n-requires c).At-loop-at) (on (goal.at.answer_line-n-requires c).After-gather-gathered) c.gather-gathered.new.front c.gather-gathered.result.used c.gather-gathered.result.at
 
 pub overflow_add-written : goal.overflow_add-written
 overflow_add-written c =
-    let f = part-fits (block (goal.at.overflow_add-written c).At-loop-at) (begin (goal.at.overflow_add-written c).At-loop-at) (here (goal.at.overflow_add-written c).At-loop-at) (upto (goal.at.overflow_add-written c).At-loop-at) (on (goal.at.overflow_add-written c).After-gather-gathered) c.gather-gathered.new.0 c.gather-gathered.result.used c.gather-gathered.result.at c.answer_line-n.result (left (goal.at.overflow_add-written c).After-answer_line-n) c.answer_line-n.ensures (same (goal.at.overflow_add-written c).After-answer_line-n) in
+    let f = part-fits (block (goal.at.overflow_add-written c).At-loop-at) (begin (goal.at.overflow_add-written c).At-loop-at) (here (goal.at.overflow_add-written c).At-loop-at) (upto (goal.at.overflow_add-written c).At-loop-at) (on (goal.at.overflow_add-written c).After-gather-gathered) c.gather-gathered.new.front c.gather-gathered.result.used c.gather-gathered.result.at c.answer_line-n.result (left (goal.at.overflow_add-written c).After-answer_line-n) c.answer_line-n.ensures (same (goal.at.overflow_add-written c).After-answer_line-n) in
     record { fits = omega (arith, f, c.loop-at.invariant.6, c.well-formed.1.1.1.1.1.1.1.0.0) }
 
 pub loop-at-smaller-then-gathered : goal.loop-at-smaller-then-gathered
@@ -97,14 +96,14 @@ pub loop-at-preserved-then-gathered : goal.loop-at-preserved-then-gathered
 loop-at-preserved-then-gathered c =
     let i = c.loop-at.invariant in
     let k = c.answer_line-n.auto in (
-      pass_line (block (goal.at.loop-at-preserved-then-gathered c).At-loop-at) (begin (goal.at.loop-at-preserved-then-gathered c).At-loop-at) (here (goal.at.loop-at-preserved-then-gathered c).At-loop-at) (upto (goal.at.loop-at-preserved-then-gathered c).At-loop-at) (on (goal.at.loop-at-preserved-then-gathered c).After-gather-gathered) c.gather-gathered.new.0 c.gather-gathered.result.used c.gather-gathered.result.at
+      pass_line (block (goal.at.loop-at-preserved-then-gathered c).At-loop-at) (begin (goal.at.loop-at-preserved-then-gathered c).At-loop-at) (here (goal.at.loop-at-preserved-then-gathered c).At-loop-at) (upto (goal.at.loop-at-preserved-then-gathered c).At-loop-at) (on (goal.at.loop-at-preserved-then-gathered c).After-gather-gathered) c.gather-gathered.new.front c.gather-gathered.result.used c.gather-gathered.result.at
           c.answer_line-n.result (left (goal.at.loop-at-preserved-then-gathered c).After-answer_line-n) c.answer_line-n.ensures (same (goal.at.loop-at-preserved-then-gathered c).After-answer_line-n) c.gather-gathered.result.ended c.if-gathered.true c.gather-gathered.ensures,
       k.0 ∙ i.1,
       k.1.0 ∙ i.2,
       k.1.1.0 ∙ i.3,
       k.1.1.1.0 ∙ i.4,
       c.gather-gathered.auto.0 ∙ i.5,
-      part-long (block (goal.at.loop-at-preserved-then-gathered c).At-loop-at) (begin (goal.at.loop-at-preserved-then-gathered c).At-loop-at) (here (goal.at.loop-at-preserved-then-gathered c).At-loop-at) (upto (goal.at.loop-at-preserved-then-gathered c).At-loop-at) (on (goal.at.loop-at-preserved-then-gathered c).After-gather-gathered) c.gather-gathered.new.0 c.gather-gathered.result.used c.gather-gathered.result.at
+      part-long (block (goal.at.loop-at-preserved-then-gathered c).At-loop-at) (begin (goal.at.loop-at-preserved-then-gathered c).At-loop-at) (here (goal.at.loop-at-preserved-then-gathered c).At-loop-at) (upto (goal.at.loop-at-preserved-then-gathered c).At-loop-at) (on (goal.at.loop-at-preserved-then-gathered c).After-gather-gathered) c.gather-gathered.new.front c.gather-gathered.result.used c.gather-gathered.result.at
           c.answer_line-n.result (left (goal.at.loop-at-preserved-then-gathered c).After-answer_line-n) c.answer_line-n.ensures (same (goal.at.loop-at-preserved-then-gathered c).After-answer_line-n)
           ∙ i.6,
     )
@@ -116,7 +115,7 @@ loop-at-smaller c =
 pub loop-at-preserved : goal.loop-at-preserved
 loop-at-preserved c =
     let i = c.loop-at.invariant in
-    (pass_open (block (goal.at.loop-at-preserved c).At-loop-at) (begin (goal.at.loop-at-preserved c).At-loop-at) (here (goal.at.loop-at-preserved c).At-loop-at) (upto (goal.at.loop-at-preserved c).At-loop-at) (on (goal.at.loop-at-preserved c).After-gather-gathered) c.gather-gathered.new.0 c.gather-gathered.result.used c.gather-gathered.result.at c.gather-gathered.result.ended c.if-gathered.false c.gather-gathered.ensures, i.1, i.2, i.3, i.4, c.gather-gathered.auto.0 ∙ i.5, i.6)
+    (pass_open (block (goal.at.loop-at-preserved c).At-loop-at) (begin (goal.at.loop-at-preserved c).At-loop-at) (here (goal.at.loop-at-preserved c).At-loop-at) (upto (goal.at.loop-at-preserved c).At-loop-at) (on (goal.at.loop-at-preserved c).After-gather-gathered) c.gather-gathered.new.front c.gather-gathered.result.used c.gather-gathered.result.at c.gather-gathered.result.ended c.if-gathered.false c.gather-gathered.ensures, i.1, i.2, i.3, i.4, c.gather-gathered.auto.0 ∙ i.5, i.6)
 
 pub returns-else-out-written-ge-OUTPUT_SIZE : goal.returns-else-out-written-ge-OUTPUT_SIZE
 returns-else-out-written-ge-OUTPUT_SIZE c =

@@ -24,7 +24,7 @@ use Rattle.insertion.proofs.insert_edit.Goals as goal
 use Rattle.insertion.proofs.insert_edit.Goals.{After-insert_edge, After-try_out-trials}
 
 abbrev xs₁ : After-insert_edge → List ℕ
-xs₁ c = c.insert_edge.new.0
+xs₁ c = c.insert_edge.new.session
 
 layout : (c : After-insert_edge) → in_layout (xs₁ c) ≡ true
 layout c =
@@ -34,7 +34,7 @@ near : (c : After-insert_edge) → c.args.start < nodes (graph_of (xs₁ c))
 near c =
     start_near c.args.session.now c.args.start c.args.end c.requires.0 c.requires.1 (xs₁ c) c.insert_edge.ensures
 
-begun : (c : After-try_out-trials) → let i = «After-slice_known-1» in Begun (xs₁ i) i.before.before.before.before.args.start i.before.before.before.before.args.end c.try_out-trials.new.1.1.1.0 c.try_out-trials.result
+begun : (c : After-try_out-trials) → Begun (xs₁ «After-slice_known-1») c.args.start c.args.end c.try_out-trials.new.table c.try_out-trials.result
 begun c = c.try_out-trials.ensures c.args.end c.seeds_at-seeds.ensures
 
 both : (p : tie.After-put-together) (u v : ℕ)
@@ -97,19 +97,19 @@ store_marks-requires c = (
   layout (goal.at.store_marks-requires c).After-insert_edge,
   c.put_together.ensures.0 ∙ (begun (goal.at.store_marks-requires c).After-try_out-trials).left.long,
   stored_inside c.args.session.now c.args.start c.args.end c.requires.0 c.requires.1 (xs₁ (goal.at.store_marks-requires c).After-insert_edge) c.insert_edge.ensures
-      (begun (goal.at.store_marks-requires c).After-try_out-trials).trials c.try_out-trials.last.1.1.1.0 c.put_together.new.0 (begun (goal.at.store_marks-requires c).After-try_out-trials).tried (begun (goal.at.store_marks-requires c).After-try_out-trials).left (both (goal.at.store_marks-requires c).After-put_together),
+      (begun (goal.at.store_marks-requires c).After-try_out-trials).trials c.try_out-trials.new.table c.put_together.new.table (begun (goal.at.store_marks-requires c).After-try_out-trials).tried (begun (goal.at.store_marks-requires c).After-try_out-trials).left (both (goal.at.store_marks-requires c).After-put_together),
 )
 
 pub shape_of-session : goal.shape_of-session
 shape_of-session c =
-    left-length _ _ _ (xs₁ (goal.at.shape_of-session c).After-insert_edge) c.store_marks.new.0 (layout_limits (xs₁ (goal.at.shape_of-session c).After-insert_edge) (layout (goal.at.shape_of-session c).After-insert_edge)).long c.store_marks.ensures
+    left-length _ _ _ (xs₁ (goal.at.shape_of-session c).After-insert_edge) c.store_marks.new.session (layout_limits (xs₁ (goal.at.shape_of-session c).After-insert_edge) (layout (goal.at.shape_of-session c).After-insert_edge)).long c.store_marks.ensures
     ∙ left-length _ _ _ c.args.session.now (xs₁ (goal.at.shape_of-session c).After-insert_edge) (layout_limits c.args.session.now c.requires.0).long c.insert_edge.ensures
 
 pub returns : goal.returns
 returns c =
     let a = c.args in (
       inserted_stored a.session.now a.start a.end c.requires.0 c.requires.1 (xs₁ (goal.at.returns c).After-insert_edge) c.insert_edge.ensures
-          (begun (goal.at.returns c).After-try_out-trials).trials c.try_out-trials.last.1.1.1.0 c.put_together.new.0 (begun (goal.at.returns c).After-try_out-trials).tried (begun (goal.at.returns c).After-try_out-trials).left (both (goal.at.returns c).After-put_together) c.try_out-trials.result (begun (goal.at.returns c).After-try_out-trials).counted _ c.store_marks.ensures,
+          (begun (goal.at.returns c).After-try_out-trials).trials c.try_out-trials.new.table c.put_together.new.table (begun (goal.at.returns c).After-try_out-trials).tried (begun (goal.at.returns c).After-try_out-trials).left (both (goal.at.returns c).After-put_together) c.try_out-trials.result (begun (goal.at.returns c).After-try_out-trials).counted _ c.store_marks.ensures,
       saved-before insertion a.session.now a.start a.end c.requires.0 c.requires.1 (xs₁ (goal.at.returns c).After-insert_edge) c.insert_edge.ensures _ _
           (c.copy_words.ensures ∙ c.marks_of.ensures),
     )

@@ -18,8 +18,8 @@ abbrev facts : (c : Start) → LayoutFacts c.args.session.now
 facts c = layout-facts c.args.session.now c.requires.session_value.0
 
 tried : (c : After-try_pairs)
-    → let s = «Start» in let xs = s.args.session.now in
-    Holds xs (trial_set (trigger_of xs) (graph_of xs) (marks_of xs) s.args.start s.pre.1.0) c.try_pairs.new.1.1.1.1.1.0
+    → let xs = c.args.session.now in
+    Holds xs (trial_set (trigger_of xs) (graph_of xs) (marks_of xs) c.args.start c.requires.by_index.0) c.try_pairs.new.table
 tried c = c.try_pairs.ensures c.requires.by_index.0 c.requires.by_index.1
 
 pub bounds-session-0 : goal.bounds-session-0
@@ -62,7 +62,7 @@ begin-requires c =
 pub returns : goal.returns
 returns c =
     λ b is. record {
-      trials = c.try_pairs.new.1.1.1.1.1.0;
+      trials = c.try_pairs.new.table;
       tried = c.try_pairs.ensures b is;
       left = c.begin.ensures;
       counted = c.pairs_in-trials.ensures;

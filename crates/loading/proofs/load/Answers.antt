@@ -32,10 +32,10 @@ samples_fit c = below_make (2 ^ word_bits) c.args.samples.now (λ i l. omega (ar
 passed : (c : Else-broken-ne0) → verdict (load_rules (length c.args.session.now) (length c.args.changes.now) (loaded «Start»)) ≡ 0
 passed c = sym c.load_rule-broken.ensures ∙ c.if-broken-ne0.false
 
-layout : (c : After-write_sections) → in_layout c.write_sections.new.0 ≡ true
+layout : (c : After-write_sections) → in_layout c.write_sections.new.session ≡ true
 layout c =
     load-layout (loaded «Start») c.args.session.now (length c.args.changes.now) (passed «Else-broken-ne0») (masks_fit «After-load_rule-broken») (values_fit «After-load_rule-broken») (samples_fit «After-load_rule-broken»)
-    c.write_sections.new.0 c.write_sections.ensures
+    c.write_sections.new.session c.write_sections.ensures
 
 pub returns-then-broken-ne0 : goal.returns-then-broken-ne0
 returns-then-broken-ne0 c =
@@ -58,14 +58,14 @@ store_marks-requires c = (
   layout (goal.at.store_marks-requires c).After-write_sections,
   c.solve-trials.ensures.long,
   load_inside (loaded (goal.at.store_marks-requires c).Start) c.args.session.now (length c.args.changes.now) (passed (goal.at.store_marks-requires c).Else-broken-ne0) (masks_fit (goal.at.store_marks-requires c).After-load_rule-broken) (values_fit (goal.at.store_marks-requires c).After-load_rule-broken) (samples_fit (goal.at.store_marks-requires c).After-load_rule-broken)
-      c.write_sections.last.0 c.write_sections.ensures c.solve-trials.result c.solve-trials.new.1.0 c.solve-trials.ensures,
+      c.write_sections.new.session c.write_sections.ensures c.solve-trials.result c.solve-trials.new.table c.solve-trials.ensures,
 )
 
 pub report-requires : goal.report-requires
 report-requires c = (
   load-marked (loaded (goal.at.report-requires c).Start) c.args.session.now (length c.args.changes.now) (passed (goal.at.report-requires c).Else-broken-ne0) (masks_fit (goal.at.report-requires c).After-load_rule-broken) (values_fit (goal.at.report-requires c).After-load_rule-broken) (samples_fit (goal.at.report-requires c).After-load_rule-broken)
-      c.write_sections.last.0 c.write_sections.ensures c.solve-trials.result c.solve-trials.new.1.0 c.solve-trials.ensures
-      c.store_marks.new.0 c.store_marks.ensures,
+      c.write_sections.new.session c.write_sections.ensures c.solve-trials.result c.solve-trials.new.table c.solve-trials.ensures
+      c.store_marks.new.session c.store_marks.ensures,
   refl,
   load-room (length c.args.session.now) (length c.args.changes.now) (loaded (goal.at.report-requires c).Start) (passed (goal.at.report-requires c).Else-broken-ne0),
 )
@@ -77,6 +77,6 @@ returns c =
       refuses = λ bad. absurd (bad (passed (goal.at.returns c).Else-broken-ne0));
       accepts = λ ok.
           load-written (loaded (goal.at.returns c).Start) c.args.session.now (length c.args.changes.now) (passed (goal.at.returns c).Else-broken-ne0) (masks_fit (goal.at.returns c).After-load_rule-broken) (values_fit (goal.at.returns c).After-load_rule-broken) (samples_fit (goal.at.returns c).After-load_rule-broken)
-          c.write_sections.last.0 c.write_sections.ensures c.solve-trials.result c.solve-trials.new.1.0 c.solve-trials.ensures
-          c.store_marks.new.0 c.store_marks.ensures (replicate max_nodes 0) (zeros max_nodes) _ _ _ c.report.ensures;
+          c.write_sections.new.session c.write_sections.ensures c.solve-trials.result c.solve-trials.new.table c.solve-trials.ensures
+          c.store_marks.new.session c.store_marks.ensures (replicate max_nodes 0) (zeros max_nodes) _ _ _ c.report.ensures;
     }

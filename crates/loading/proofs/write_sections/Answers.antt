@@ -32,34 +32,34 @@ long0 : (c : Start) → length (X0 c) ≡ length c.args.session.now
 long0 c = simp length-set
 
 abbrev X1 : After-fill_halves → List ℕ
-X1 c = put_mid masks_at max_states (X0 «Start») c.fill_halves.new.0
+X1 c = put_mid masks_at max_states (X0 «Start») c.fill_halves.new.place
 
 long1 : (c : After-fill_halves) → length (X1 c) ≡ length c.args.session.now
-long1 c = same_len_mid masks_at max_states (X0 «Start») c.fill_halves.new.0 c.fill_halves.auto.0 ∙ long0 «Start»
+long1 c = same_len_mid masks_at max_states (X0 «Start») c.fill_halves.new.place c.fill_halves.auto.0 ∙ long0 «Start»
 
 abbrev X2 : After-fill_halves-2 → List ℕ
-X2 c = put_mid values_at max_states (X1 «After-fill_halves») c.fill_halves-2.new.0
+X2 c = put_mid values_at max_states (X1 «After-fill_halves») c.fill_halves-2.new.place
 
 long2 : (c : After-fill_halves-2) → length (X2 c) ≡ length c.args.session.now
-long2 c = same_len_mid values_at max_states (X1 «After-fill_halves») c.fill_halves-2.new.0 c.fill_halves-2.auto.0 ∙ long1 «After-fill_halves»
+long2 c = same_len_mid values_at max_states (X1 «After-fill_halves») c.fill_halves-2.new.place c.fill_halves-2.auto.0 ∙ long1 «After-fill_halves»
 
 abbrev X3 : After-fill_words → List ℕ
-X3 c = put_mid links_at max_states (X2 «After-fill_halves-2») c.fill_words.new.0
+X3 c = put_mid links_at max_states (X2 «After-fill_halves-2») c.fill_words.new.place
 
 long3 : (c : After-fill_words) → length (X3 c) ≡ length c.args.session.now
-long3 c = same_len_mid links_at max_states (X2 «After-fill_halves-2») c.fill_words.new.0 c.fill_words.auto.0 ∙ long2 «After-fill_halves-2»
+long3 c = same_len_mid links_at max_states (X2 «After-fill_halves-2») c.fill_words.new.place c.fill_words.auto.0 ∙ long2 «After-fill_halves-2»
 
 abbrev X4 : After-fill_halves-3 → List ℕ
-X4 c = put_mid samples_at max_nodes (X3 «After-fill_words») c.fill_halves-3.new.0
+X4 c = put_mid samples_at max_nodes (X3 «After-fill_words») c.fill_halves-3.new.place
 
 long4 : (c : After-fill_halves-3) → length (X4 c) ≡ length c.args.session.now
-long4 c = same_len_mid samples_at max_nodes (X3 «After-fill_words») c.fill_halves-3.new.0 c.fill_halves-3.auto.0 ∙ long3 «After-fill_words»
+long4 c = same_len_mid samples_at max_nodes (X3 «After-fill_words») c.fill_halves-3.new.place c.fill_halves-3.auto.0 ∙ long3 «After-fill_words»
 
 abbrev X5 : After-fill_edges → List ℕ
-X5 c = put_mid edges_at max_edges (X4 «After-fill_halves-3») c.fill_edges.last.0
+X5 c = put_mid edges_at max_edges (X4 «After-fill_halves-3») c.fill_edges.new.place
 
 long5 : (c : After-fill_edges) → length (X5 c) ≡ length c.args.session.now
-long5 c = same_len_mid edges_at max_edges (X4 «After-fill_halves-3») c.fill_edges.new.0 c.fill_edges.auto.0 ∙ long4 «After-fill_halves-3»
+long5 c = same_len_mid edges_at max_edges (X4 «After-fill_halves-3») c.fill_edges.new.place c.fill_edges.auto.0 ∙ long4 «After-fill_halves-3»
 
 pub overflow_cast-session : goal.overflow_cast-session
 overflow_cast-session c =
@@ -149,10 +149,10 @@ slice_bounds-clear-end c =
 
 pub shape_of-session : goal.shape_of-session
 shape_of-session c =
-    same_len_mid marks_at max_nodes (X5 (goal.at.shape_of-session c).After-fill_edges) c.clear.new.0 c.clear.auto.0 ∙ long5 (goal.at.shape_of-session c).After-fill_edges
+    same_len_mid marks_at max_nodes (X5 (goal.at.shape_of-session c).After-fill_edges) c.clear.new.place c.clear.auto.0 ∙ long5 (goal.at.shape_of-session c).After-fill_edges
 
 pub returns : goal.returns
 returns c =
     sections_written (loaded (goal.at.returns c).Start) c.args.session.now (bounds (goal.at.returns c).Start).0
-    c.fill_halves.new.0 c.fill_halves-2.new.0 c.fill_words.new.0 c.fill_halves-3.new.0 c.fill_edges.new.0 c.clear.new.0
+    c.fill_halves.new.place c.fill_halves-2.new.place c.fill_words.new.place c.fill_halves-3.new.place c.fill_edges.new.place c.clear.new.place
     c.fill_halves.ensures c.fill_halves-2.ensures c.fill_words.ensures c.fill_halves-3.ensures c.fill_edges.ensures c.clear.ensures

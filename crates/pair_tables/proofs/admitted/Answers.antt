@@ -13,10 +13,9 @@ use Rattle.pair_tables.proofs.admitted.Goals.{After-admit-count}
 
 -- what the call leaves, of the state u
 put : (c : After-admit-count)
-    → let l = «At-loop-u» in
-    let a = l.before.before.before.before.before.args in
-    Admits a.samples.now (members a.turned l.loop.u) (get_or a.masks.now l.loop.u 0) (get_or a.values.now l.loop.u 0) l.loop.u
-    l.loop.table c.admit-count.result c.admit-count.new.1.1.1.1.1.0
+    → let a = c.args in
+    Admits a.samples.now (members a.turned c.loop-u.u) (get_or a.masks.now c.loop-u.u 0) (get_or a.values.now c.loop-u.u 0) c.loop-u.u
+    c.loop-u.table c.admit-count.result c.admit-count.new.table
 put c = rw c.has.ensures at c.admit-count.ensures
 
 pub loop-u-init : goal.loop-u-init

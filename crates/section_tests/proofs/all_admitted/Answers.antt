@@ -29,14 +29,13 @@ room : (c : After-shared_slice_known-4-1) → nodes c ≡ length (take (nodes c)
 room c = sym (length-take-le (nodes c) zeros c.requires.samples_value.1)
 
 -- the array holds the samples, and they are what is read of it
-held : (c : After-narrow) → c.narrow.new.0 ≡ c.args.samples.now
+held : (c : After-narrow) → c.narrow.new.place ≡ c.args.samples.now
 held c = c.narrow.ensures ∙ halves_small c.args.samples.now 0 refl c.requires.samples_value.0
 
 samples-read : (c : After-narrow)
-    → let g = «After-shared_slice_known-4-1» in
-    take (nodes g) (c.narrow.new.0 ++ drop (nodes g) zeros) ≡ g.before.before.before.before.args.samples.now
+    → take (nodes «After-shared_slice_known-4-1») (c.narrow.new.place ++ drop (nodes «After-shared_slice_known-4-1») zeros) ≡ c.args.samples.now
 samples-read c =
-    front_read zeros c.narrow.new.0 c.args.samples.now (nodes «After-shared_slice_known-4-1») (held c) c.requires.samples_len.0
+    front_read zeros c.narrow.new.place c.args.samples.now (nodes «After-shared_slice_known-4-1») (held c) c.requires.samples_len.0
 
 pub returns-then-used-eq0 : goal.returns-then-used-eq0
 returns-then-used-eq0 c =
@@ -58,7 +57,7 @@ narrow-requires c =
 
 pub slice_bounds-words-end-2 : goal.slice_bounds-words-end-2
 slice_bounds-words-end-2 c =
-    front-inside c.narrow.new.0 c.args.samples.now (drop (nodes (goal.at.slice_bounds-words-end-2 c).After-shared_slice_known-4-1) zeros) (nodes (goal.at.slice_bounds-words-end-2 c).After-shared_slice_known-4-1) (held (goal.at.slice_bounds-words-end-2 c).After-narrow) c.requires.samples_len.0
+    front-inside c.narrow.new.place c.args.samples.now (drop (nodes (goal.at.slice_bounds-words-end-2 c).After-shared_slice_known-4-1) zeros) (nodes (goal.at.slice_bounds-words-end-2 c).After-shared_slice_known-4-1) (held (goal.at.slice_bounds-words-end-2 c).After-narrow) c.requires.samples_len.0
 
 pub slice_bounds-both_admitted-end : goal.slice_bounds-both_admitted-end
 slice_bounds-both_admitted-end c =

@@ -32,10 +32,10 @@ room c = sym (length-take-le (length c.args.marks.now) zeros c.requires.marks_le
 signs_read : (c : After-narrow)
     → let a = c.args in
     let n = length a.marks.now in
-    take n (c.narrow.new.0 ++ drop n zeros) ≡ halves a.first a.marks.now
+    take n (c.narrow.new.place ++ drop n zeros) ≡ halves a.first a.marks.now
 signs_read c =
     let a = c.args in
-    front_read zeros c.narrow.new.0 (halves a.first a.marks.now) (length a.marks.now) c.narrow.ensures
+    front_read zeros c.narrow.new.place (halves a.first a.marks.now) (length a.marks.now) c.narrow.ensures
     (halves_long a.marks.now a.first)
 
 pub returns-then-some-eq0 : goal.returns-then-some-eq0
@@ -63,7 +63,7 @@ narrow-requires c =
 pub slice_bounds-signs-end-2 : goal.slice_bounds-signs-end-2
 slice_bounds-signs-end-2 c =
     let a = c.args in
-    front-inside c.narrow.new.0 (halves a.first a.marks.now) (drop (length a.marks.now) zeros) (length a.marks.now) c.narrow.ensures
+    front-inside c.narrow.new.place (halves a.first a.marks.now) (drop (length a.marks.now) zeros) (length a.marks.now) c.narrow.ensures
     (halves_long a.marks.now a.first)
 
 pub slice_bounds-all_sparse-end : goal.slice_bounds-all_sparse-end

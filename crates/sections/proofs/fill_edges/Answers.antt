@@ -22,6 +22,6 @@ copy_edges-requires c =
 pub returns : goal.returns
 returns c =
     let a = c.args in
-    fill_parts a.place.now (numbered a.starts.now a.ends.now) c.copy_edges.new.0 c.clear.new.0
+    fill_parts a.place.now (numbered a.starts.now a.ends.now) c.copy_edges.new.place c.clear.new.place
     (length a.starts.now) _ (length-numbered a.starts.now a.ends.now) c.requires.starts_in_bounds c.copy_edges.ensures refl
     c.clear.ensures

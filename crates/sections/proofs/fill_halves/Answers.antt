@@ -16,5 +16,5 @@ copy_halves-requires c =
 
 pub returns : goal.returns
 returns c =
-    fill_parts c.args.place.now c.args.source.now c.copy_halves.new.0 c.clear.new.0 _ _ refl c.requires
+    fill_parts c.args.place.now c.args.source.now c.copy_halves.new.place c.clear.new.place _ _ refl c.requires
     c.copy_halves.ensures refl c.clear.ensures

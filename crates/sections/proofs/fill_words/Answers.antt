@@ -16,5 +16,5 @@ copy_words-requires c =
 
 pub returns : goal.returns
 returns c =
-    fill_parts c.args.place.now c.args.source.now c.copy_words.new.0 c.clear.new.0 _ _ refl c.requires
+    fill_parts c.args.place.now c.args.source.now c.copy_words.new.place c.clear.new.place _ _ refl c.requires
     c.copy_words.ensures refl c.clear.ensures

@@ -49,7 +49,7 @@ grow-requires c =
           let i = fresh.inside u v e in
           (rw c.links_of.ensures (omega (arith, i.0, f.trigger.links)), omega (arith, i.1, f.counts.1));
       by_index_2 = seeds-fit a.session.now c.requires.session_value.0 a.start c.requires.indexed.1.0 a.seeds c.requires.session_value.1 c.requires.indexed.1.1 a.table.now c.requires.session_value.2 c.requires.session_value.3
-          c.fresh_pairs.new.1.0 (replicate waiting_words 0) c.put_in.new.0 fresh c.put_in.ensures.1;
+          c.fresh_pairs.new.table (replicate waiting_words 0) c.put_in.new.waiting fresh c.put_in.ensures.1;
     }
 
 pub returns : goal.returns

@@ -47,7 +47,7 @@ loop-turns-preserved c =
           let a = c.args in
           let h = c.loop-turns in
           let t = c.answer_whole-begun.new in
-          let read = take c.count-n.result c.read.new.1.0 in (
+          let read = take c.count-n.result c.read.new.buf in (
             l.0 ++ read,
             l.1 ++ n.0,
             leads_then (memory a.counts.now a.words.now a.session.now a.changes.now a.out.now) [] l.0 l.1

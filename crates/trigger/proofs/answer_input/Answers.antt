@@ -13,7 +13,7 @@ use Rattle.frames.proofs.Inputs.{leads-end}
 use Rattle.trigger.proofs.answer_input.Goals as goal
 use Rattle.trigger.proofs.answer_input.Goals.{After-answer_end-progress}
 
-inside : (c : After-answer_end-progress) → c.answer_end-progress.result.written ≤ length c.answer_end-progress.new.1.1.1.1.1.1.0
+inside : (c : After-answer_end-progress) → c.answer_end-progress.result.written ≤ length c.answer_end-progress.new.out
 inside c = end-written _ _ _ _ _ c.answer_end-progress.ensures c.answer_blocks-begun.ensures.0
 
 pub answer_blocks-begun-requires : goal.answer_blocks-begun-requires

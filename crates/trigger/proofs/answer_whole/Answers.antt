@@ -30,15 +30,14 @@ rest-long c =
     omega (arith, length-take (length b - c.loop-at.at) (drop c.loop-at.at b), length-drop c.loop-at.at b)
 
 taken : (c : After-answer_block-progress)
-    → BlockTaken (met «At-loop-at») c.loop-at.front c.loop-at.line (rest «At-loop-at») c.answer_block-progress.result (left c) c.answer_block-progress.new.1.1.1.1.0
+    → BlockTaken (met «At-loop-at») c.loop-at.front c.loop-at.line (rest «At-loop-at») c.answer_block-progress.result (left c) c.answer_block-progress.new.front
 taken c = c.answer_block-progress.ensures
 
 -- how far the call came, and what it wrote
 inside : (c : After-answer_block-progress) → c.answer_block-progress.result.written ≤ length (left c).out
 inside c = block_written _ _ _ _ _ _ _ (taken c) c.loop-at.invariant.0
 
-goes : (c : After-answer_block-progress) → let h = «At-loop-at» in
-    (h.loop.at < h.loop.at + c.answer_block-progress.result.at) × (h.loop.at + c.answer_block-progress.result.at ≤ length h.before.before.before.before.before.before.before.args.block.now)
+goes : (c : After-answer_block-progress) → (c.loop-at.at < c.loop-at.at + c.answer_block-progress.result.at) × (c.loop-at.at + c.answer_block-progress.result.at ≤ length c.args.block.now)
 goes c =
     let l = rest-long «At-loop-at» in
     let some = block_goes _ _ _ _ _ _ _ (taken c) c.loop-at.invariant.0 (omega (arith, l, c.loop-at-test.true)) in

@@ -53,7 +53,7 @@ overflow_add-session c =
 pub bounds-session-2-2 : goal.bounds-session-2-2
 bounds-session-2-2 c =
     let xs = c.args.session.now in
-    omega (arith, (holds (goal.at.bounds-session-2-2 c).Start).long, before-part edges_at (edges_at + 1 + get_or xs 2 0 - edges_at) xs c.put_edge.new.0 (omega (arith, (holds (goal.at.bounds-session-2-2 c).Start).long)))
+    omega (arith, (holds (goal.at.bounds-session-2-2 c).Start).long, before-part edges_at (edges_at + 1 + get_or xs 2 0 - edges_at) xs c.put_edge.new.edges (omega (arith, (holds (goal.at.bounds-session-2-2 c).Start).long)))
 
 pub returns : goal.returns
 returns c =
