@@ -40,5 +40,5 @@ returns c =
     let xs = c.args.edges.now in
     let at = c.place_of-at.result in
     let down = c.move_down in
-    dropped xs at (length xs - at) (stands (goal.at.returns c).After-place_of-at) refl down.new.0 down.ensures
+    dropped xs at (length xs - at) (stands (goal.at.returns c).After-place_of-at) refl down.new.part down.ensures
     ∙ ap (λ (r : List ℕ). r ++ (0 ∷ [])) (sym (remove-place c.args.code xs at (rising-take xs c.requires.0) c.requires.1 c.place_of-at.ensures))

@@ -50,7 +50,7 @@ bounds-edges-at c =
     let xs = c.args.edges.now in
     let at = c.place_of-at.result in
     let up = c.move_up in
-    rw (same_len_mid at (length xs - at) xs up.new.0 up.auto.0) (stands (goal.at.bounds-edges-at c).After-place_of-at)
+    rw (same_len_mid at (length xs - at) xs up.new.part up.auto.0) (stands (goal.at.bounds-edges-at c).After-place_of-at)
 
 pub returns : goal.returns
 returns c =
@@ -58,5 +58,5 @@ returns c =
     let front = take (length xs - 1) xs in
     let at = c.place_of-at.result in
     let up = c.move_up in
-    put_in xs at (length xs - at) (stands (goal.at.returns c).After-place_of-at) refl c.args.code up.new.0 up.ensures
+    put_in xs at (length xs - at) (stands (goal.at.returns c).After-place_of-at) refl c.args.code up.new.part up.ensures
     ∙ sym (insert-place c.args.code front at (rising-take front c.requires.1) c.place_of-at.ensures)

@@ -59,5 +59,5 @@ pub returns : goal.returns
 returns c =
     let xs = c.args.session.now in
     let put = c.put_edge in
-    insert_stored xs c.requires.session_value c.args.start c.args.end put.new.0 (edges_at + 1 + get_or xs 2 0 - edges_at) _ (omega arith) (omega arith)
+    insert_stored xs c.requires.session_value c.args.start c.args.end put.new.edges (edges_at + 1 + get_or xs 2 0 - edges_at) _ (omega arith) (omega arith)
     (omega (arith, (holds (goal.at.returns c).Start).count)) put.ensures

@@ -74,5 +74,5 @@ pub returns : goal.returns
 returns c =
     let xs = c.args.session.now in
     let drop = c.drop_edge in
-    remove_stored xs c.requires.session_value c.args.start c.args.end drop.new.0 (edges_at + get_or xs 2 0 - edges_at) _ (omega arith) (omega arith) (there (goal.at.returns c).Start)
+    remove_stored xs c.requires.session_value c.args.start c.args.end drop.new.edges (edges_at + get_or xs 2 0 - edges_at) _ (omega arith) (omega arith) (there (goal.at.returns c).Start)
     drop.ensures
