@@ -97,15 +97,17 @@ def main():
     for p in paths(ANTT + SOURCES + OTHERS):
         text = open(p).read()
         names = {**(table if p.endswith((".antt", ".rt")) else before), **FACTS.get(p, {})}
-        only = re.compile(rf"(?<![.\w])((?:[A-Za-z]\w*\.)*)({WORD})") if p.endswith(".rt") else None
+        modules = set(re.findall(r"\buse [\w.]+ as (\w+)", text))
 
         def put(m):
             word = m[0]
             if word not in names:
                 return word
-            # behind a value and a dot stand the names that Rattle makes, and members
-            if text[m.start() - 1 : m.start()] == "." and word not in members and not re.search(r"[A-Z][\w']*\.$", text[: m.start()][-60:]):
-                return word
+            # behind a value and a dot stand the names that Rattle makes, and members; behind a module and a dot its items
+            if text[m.start() - 1 : m.start()] == "." and word not in members:
+                behind = re.search(r"([\w']+)\.$", text[: m.start()][-60:])
+                if not behind or not (behind[1][:1].isupper() or behind[1] in modules):
+                    return word
             return names[word]
 
         new = re.sub(WORD, put, text)

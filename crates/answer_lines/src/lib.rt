@@ -51,8 +51,8 @@ pub fn put_pair(out: &mut [u8], at: usize, first: u32, second: u32) -> usize
 
 // Writes the line of a report.
 pub fn put_report(out: &mut [u8], at: usize, fires: bool, trials: u32, changes: u32) -> usize
-    requires { at + o.reportSize ≤ length out.old }
-    ensures { Placed out.old at (o.reportLine fires trials changes) out.new result }
+    requires { at + o.report_size ≤ length out.old }
+    ensures { Placed out.old at (o.report_line fires trials changes) out.new result }
 {
     let next = put_head(out, at, 128, fires as u32);
     put_pair(out, next, trials, changes)
@@ -72,7 +72,7 @@ pub fn complement(change: i32) -> u32
 
 // Writes the line of a change.
 pub fn put_change(out: &mut [u8], at: usize, change: i32) -> usize
-    requires { at + o.changeSize ≤ length out.old }
+    requires { at + o.change_size ≤ length out.old }
     ensures { Placed out.old at (o.changed change) out.new result }
 {
     let bits = complement(change);
@@ -83,7 +83,7 @@ pub fn put_change(out: &mut [u8], at: usize, change: i32) -> usize
 
 // Writes a line for each change.
 pub fn put_changes(out: &mut [u8], at: usize, list: &[i32]) -> usize
-    requires { at + o.changeSize * length list.now ≤ length out.old }
+    requires { at + o.change_size * length list.now ≤ length out.old }
     ensures { Placed out.old at (o.each o.changed list.now) out.new result }
 {
     let mut next = at;
@@ -121,7 +121,7 @@ pub fn put_order(out: &mut [u8], at: usize, states: &[u8]) -> usize
 
 // Writes the lines of an answer with the changes of a room.
 pub fn put_answer(out: &mut [u8], answer: Answer, room: &[i32]) -> usize
-    requires { o.reportSize + o.changeSize * length (handed_back room.now answer) ≤ length out.old }
+    requires { o.report_size + o.change_size * length (handed_back room.now answer) ≤ length out.old }
     ensures { Placed out.old 0 (o.answered (told answer) (handed_back room.now answer)) out.new result }
 {
     match answer {

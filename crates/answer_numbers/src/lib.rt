@@ -28,7 +28,7 @@ pub fn fields(flag: bool, trials: u32, changes: u32) -> u64
 
 // The number of the answer to a load or an edit.
 pub fn answer_number(answer: Answer) -> u64
-    ensures { result ≡ p.answerNumber answer }
+    ensures { result ≡ p.answer_number answer }
 {
     match answer {
         Answer::Accepted(report) => {
@@ -41,7 +41,7 @@ pub fn answer_number(answer: Answer) -> u64
 
 // The number of the answer whether a state stands at a node.
 pub fn standing_number(answer: Standing) -> u64
-    ensures { result ≡ p.standingNumber answer }
+    ensures { result ≡ p.standing_number answer }
 {
     match answer {
         Standing::Stands => fields(true, 0, 0),
@@ -52,7 +52,7 @@ pub fn standing_number(answer: Standing) -> u64
 
 // The number of the answer whether the trigger fires.
 pub fn firing_number(answer: FiringAnswer) -> u64
-    ensures { result ≡ p.firingNumber answer }
+    ensures { result ≡ p.firing_number answer }
 {
     match answer {
         FiringAnswer::Now(firing) => fields(says(firing), 0, 0),
@@ -62,7 +62,7 @@ pub fn firing_number(answer: FiringAnswer) -> u64
 
 // The number of the answer to an order.
 pub fn order_number(answer: OrderAnswer) -> u64
-    ensures { result ≡ p.orderNumber answer }
+    ensures { result ≡ p.order_number answer }
 {
     match answer {
         OrderAnswer::Listed(count) => fields(false, 0, count as u32),

@@ -19,7 +19,7 @@ fn input_rule(
     front: &[u8],
     out: &[u8],
 ) -> u8
-    ensures { result ≡ verdict (b.inputRules (memory counts.now words.now session.now changes.now out.now) front.now) }
+    ensures { result ≡ verdict (b.input_rules (memory counts.now words.now session.now changes.now out.now) front.now) }
 {
     if front.len() < KEPT {
         return 3;
@@ -39,7 +39,7 @@ fn pass_over(
     block: &[u8],
     out: &mut [u8],
 ) -> Progress
-    requires { verdict (b.inputRules (memory counts.old words.old session.old changes.old out.old) front.old) ≡ 0 }
+    requires { verdict (b.input_rules (memory counts.old words.old session.old changes.old out.old) front.old) ≡ 0 }
     ensures { (result.rule ≡ 0) × b.Passes block.now (b.point front.old begun 0 0 (memory counts.old words.old session.old changes.old out.old)) (b.point front.new result.begun result.at result.written (memory counts.new words.new session.new changes.new out.new)) }
 {
     let mut at = 0;

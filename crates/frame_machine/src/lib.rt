@@ -21,7 +21,7 @@ pub const OUTPUT_SIZE: usize = 13 + 11 * session::MAX_CHANGES;
 
 // Whether the lent memory is too short.
 pub fn too_small(counts: usize, words: usize, session: usize, room: usize, out: usize) -> bool
-    ensures { result ≡ ((ltb counts m.countsSize || ltb words m.wordsSize) || (ltb session fixed_size || (ltb room max_changes || ltb out m.outputSize))) }
+    ensures { result ≡ ((ltb counts m.counts_size || ltb words m.words_size) || (ltb session fixed_size || (ltb room max_changes || ltb out m.output_size))) }
 {
     (counts < COUNTS_SIZE || words < WORDS_SIZE)
         || (session < session::FIXED_SIZE || (room < session::MAX_CHANGES || out < OUTPUT_SIZE))
@@ -42,7 +42,7 @@ pub fn memory_rule(
     changes: &[i32],
     out: &[u8],
 ) -> u8
-    ensures { result ≡ verdict (m.memoryRules (m.memory counts.now words.now session.now changes.now out.now)) }
+    ensures { result ≡ verdict (m.memory_rules (m.memory counts.now words.now session.now changes.now out.now)) }
 {
     if too_small(
         counts.len(),
@@ -68,7 +68,7 @@ pub fn answer_line(
     line: &[u8],
     out: &mut [u8],
 ) -> usize
-    requires { verdict (m.memoryRules (m.memory counts.old words.old session.old changes.old out.old)) ≡ 0 }
+    requires { verdict (m.memory_rules (m.memory counts.old words.old session.old changes.old out.old)) ≡ 0 }
     ensures { m.Answers (m.memory counts.old words.old session.old changes.old out.old) line.now result (m.memory counts.new words.new session.new changes.new out.new) }
 {
     let frame = read_frame(line);

@@ -18,7 +18,7 @@ use Rattle.frames.proofs.Written.{place_is, place-fits, letter_low, letter_high,
 pub digit_of_letter : (d : ℕ) → d < 16 → digit (letter d) ≡ d
 digit_of_letter d h =
     ⊎_elim
-    (λ (l : d < 10). ap digit (sym (letter_low d l)) ∙ hex.digit-decimal (48 + d) (omega arith) (omega arith) ∙ omega arith)
+    (λ (l : d < 10). ap digit (sym (letter_low d l)) ∙ hex.digit_decimal (48 + d) (omega arith) (omega arith) ∙ omega arith)
     (λ (l : 10 ≤ d). ap digit (sym (letter_high d l)) ∙ hex.digit-letter (55 + d) (omega arith) (omega arith) ∙ omega arith)
     (lt-or-le d 10)
 

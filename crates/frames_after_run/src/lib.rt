@@ -21,7 +21,7 @@ pub fn edit_line(
     end: u32,
     out: &mut [u8],
 ) -> usize
-    requires { m.outputSize ≤ length out.old }
+    requires { m.output_size ≤ length out.old }
     ensures { (counts : List ℕ) → (words : List ℕ) → m.Changed (kind_of inserts) start end (m.memory counts words session.old changes.old out.old) result (m.memory counts words session.new changes.new out.new) }
 {
     let answer = edit(session, inserts, start, end, changes);
@@ -30,7 +30,7 @@ pub fn edit_line(
 
 // Writes the depth-first order.
 pub fn walk_line(session: &[u32], out: &mut [u8]) -> usize
-    requires { m.outputSize ≤ length out.old }
+    requires { m.output_size ≤ length out.old }
     ensures { (counts : List ℕ) → (words : List ℕ) → (c : List ℤ) → m.Walked (m.memory counts words session.now c out.old) result (m.memory counts words session.now c out.new) }
 {
     let walk = order(session);
@@ -44,7 +44,7 @@ pub fn walk_line(session: &[u32], out: &mut [u8]) -> usize
 
 // A frame after an accepted run.
 pub fn after_run(session: &mut [u32], changes: &mut [i32], frame: Frame, out: &mut [u8]) -> usize
-    requires { m.outputSize ≤ length out.old }
+    requires { m.output_size ≤ length out.old }
     ensures { (counts : List ℕ) → (words : List ℕ) → m.After (f.said frame) (m.memory counts words session.old changes.old out.old) result (m.memory counts words session.new changes.new out.new) }
 {
     match frame {

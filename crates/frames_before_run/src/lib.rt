@@ -34,7 +34,7 @@ pub fn also_inverted(set: u32, n: u32, inverted: bool) -> u32
 
 // Keeps a state.
 pub fn state_line(counts: &mut [u32], words: &mut [u16], state: State, out: &mut [u8]) -> usize
-    requires { (m.countsSize ≤ length counts.old) × (m.wordsSize ≤ length words.old) × (5 ≤ length out.old) }
+    requires { (m.counts_size ≤ length counts.old) × (m.words_size ≤ length words.old) × (5 ≤ length out.old) }
     ensures { (s : List ℕ) → (c : List ℤ) → m.Before (f.state state.inverted state.mask state.value state.links) (m.memory counts.old words.old s c out.old) result (m.memory counts.new words.new s c out.new) }
 {
     let n = counts[1] as usize;
@@ -51,7 +51,7 @@ pub fn state_line(counts: &mut [u32], words: &mut [u16], state: State, out: &mut
 
 // Keeps a node.
 pub fn node_line(counts: &mut [u32], words: &mut [u16], sample: u16, out: &mut [u8]) -> usize
-    requires { (m.countsSize ≤ length counts.old) × (m.wordsSize ≤ length words.old) × (5 ≤ length out.old) }
+    requires { (m.counts_size ≤ length counts.old) × (m.words_size ≤ length words.old) × (5 ≤ length out.old) }
     ensures { (s : List ℕ) → (c : List ℤ) → m.Before (f.node sample) (m.memory counts.old words.old s c out.old) result (m.memory counts.new words.new s c out.new) }
 {
     let n = counts[2] as usize;
@@ -84,7 +84,7 @@ pub fn run_line(
     changes: &mut [i32],
     out: &mut [u8],
 ) -> usize
-    requires { (m.countsSize ≤ length counts.old) × (m.wordsSize ≤ length words.now) × (m.outputSize ≤ length out.old) × (get_or counts.old 1 0 ≤ max_states) × (get_or counts.old 2 0 ≤ max_nodes) }
+    requires { (m.counts_size ≤ length counts.old) × (m.words_size ≤ length words.now) × (m.output_size ≤ length out.old) × (get_or counts.old 1 0 ≤ max_states) × (get_or counts.old 2 0 ≤ max_nodes) }
     ensures { m.Ran (m.memory counts.old words.now session.old changes.old out.old) result (m.memory counts.new words.now session.new changes.new out.new) }
 {
     let states = counts[1] as usize;
@@ -117,7 +117,7 @@ pub fn before_run(
     frame: Frame,
     out: &mut [u8],
 ) -> usize
-    requires { (m.countsSize ≤ length counts.old) × (m.wordsSize ≤ length words.old) × (m.outputSize ≤ length out.old) × (get_or counts.old 1 0 ≤ max_states) × (get_or counts.old 2 0 ≤ max_nodes) }
+    requires { (m.counts_size ≤ length counts.old) × (m.words_size ≤ length words.old) × (m.output_size ≤ length out.old) × (get_or counts.old 1 0 ≤ max_states) × (get_or counts.old 2 0 ≤ max_nodes) }
     ensures { m.Before (f.said frame) (m.memory counts.old words.old session.old changes.old out.old) result (m.memory counts.new words.new session.new changes.new out.new) }
 {
     match frame {
