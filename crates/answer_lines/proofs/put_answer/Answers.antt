@@ -21,7 +21,7 @@ put_changes-requires c =
     let k = c.put_report-next in
     let e = ap length (handed c) in
     let v = c.answer-1.given.0.0 in
-    omega (arith, e, room_after c.args.out.now 0 (report_line c.says.result v.trials v.changes) k.new.0 k.result (change_size * length (handed_back c.args.room.now c.args.answer)) (omega (arith, c.requires, report-long c.says.result v.trials v.changes)) k.ensures)
+    omega (arith, e, room_after c.args.out.now 0 (report_line c.says.result v.trials v.changes) k.new.out k.result (change_size * length (handed_back c.args.room.now c.args.answer)) (omega (arith, c.requires, report-long c.says.result v.trials v.changes)) k.ensures)
 
 pub returns-in-Accepted : goal.returns-in-Accepted
 returns-in-Accepted c =

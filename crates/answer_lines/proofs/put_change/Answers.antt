@@ -23,7 +23,7 @@ pub put_digits-next-requires : goal.put_digits-next-requires
 put_digits-next-requires c =
     let k = c.put_digits-kind in (
       omega arith,
-      room_after c.args.out.now c.args.at (digits 2 129) k.new.0 k.result 8 (omega (arith, c.requires, digits_long 2 129)) k.ensures,
+      room_after c.args.out.now c.args.at (digits 2 129) k.new.out k.result 8 (omega (arith, c.requires, digits_long 2 129)) k.ensures,
     )
 
 pub put_byte-requires : goal.put_byte-requires
@@ -33,7 +33,7 @@ put_byte-requires c =
     let long : length (digits 2 129 ++ digits 8 x) ≡ 2 + 8 = length-append (digits 2 129) (digits 8 x) ∙ ap₂ ◌+◌ (digits_long 2 129) (digits_long 8 x) in
     omega (
       arith,
-      room_after c.args.out.now c.args.at (digits 2 129 ++ digits 8 x) k.new.0 k.result 1 (omega (arith, c.requires, long))
+      room_after c.args.out.now c.args.at (digits 2 129 ++ digits 8 x) k.new.out k.result 1 (omega (arith, c.requires, long))
           (placed-append (omega (arith, c.requires)) c.put_digits-kind.ensures k.ensures),
     )
 

@@ -28,8 +28,8 @@ loop-k-preserved c =
     let l = c.loop-k in
     let p = c.put_change-next in
     listing_more changed change_size changed-long c.args.list.now c.args.out.now c.args.at (omega (arith, c.requires)) l.out l.next l.k (pos 0)
-    p.new.0 p.result l.invariant (omega arith)
-    (subst (λ (z : ℤ). Placed l.out l.next (changed z) p.new.0 p.result)
+    p.new.out p.result l.invariant (omega arith)
+    (subst (λ (z : ℤ). Placed l.out l.next (changed z) p.new.out p.result)
     (to_z-of_z w32 (get_or c.args.list.now l.k (pos 0)) record { sfits = c.put_change-arg-in-loop-k-1.given }) p.ensures)
 
 pub shape_of-out : goal.shape_of-out

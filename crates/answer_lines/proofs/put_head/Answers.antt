@@ -10,7 +10,7 @@ pub put_digits-requires : goal.put_digits-requires
 put_digits-requires c =
     let k = c.put_digits-next in (
       omega arith,
-      room_after c.args.out.now c.args.at (digits 2 c.args.kind) k.new.0 k.result 2 (omega (arith, c.requires, digits_long 2 c.args.kind)) k.ensures,
+      room_after c.args.out.now c.args.at (digits 2 c.args.kind) k.new.out k.result 2 (omega (arith, c.requires, digits_long 2 c.args.kind)) k.ensures,
     )
 
 pub returns : goal.returns

@@ -16,7 +16,7 @@ put_digits-kind-requires c =
 pub put_states-next-requires : goal.put_states-next-requires
 put_states-next-requires c =
     let k = c.put_digits-kind in
-    room_after c.args.out.now c.args.at (digits 2 130) k.new.0 k.result _ (omega (arith, c.requires, digits_long 2 130)) k.ensures
+    room_after c.args.out.now c.args.at (digits 2 130) k.new.out k.result _ (omega (arith, c.requires, digits_long 2 130)) k.ensures
 
 pub put_byte-requires : goal.put_byte-requires
 put_byte-requires c =
@@ -24,7 +24,7 @@ put_byte-requires c =
     let us = c.args.states.now in
     omega (
       arith,
-      room_after c.args.out.now c.args.at (digits 2 130 ++ each (digits 2) us) k.new.0 k.result 1 (omega (arith, c.requires, states-long 130 us))
+      room_after c.args.out.now c.args.at (digits 2 130 ++ each (digits 2) us) k.new.out k.result 1 (omega (arith, c.requires, states-long 130 us))
           (placed-append (omega (arith, c.requires)) c.put_digits-kind.ensures k.ensures),
     )
 

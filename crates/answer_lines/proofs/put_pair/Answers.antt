@@ -11,7 +11,7 @@ pub put_digits-next-requires : goal.put_digits-next-requires
 put_digits-next-requires c =
     let k = c.put_digits-middle in (
       omega arith,
-      room_after c.args.out.now c.args.at (digits 4 c.args.first) k.new.0 k.result 4 (omega (arith, c.requires, digits_long 4 c.args.first)) k.ensures,
+      room_after c.args.out.now c.args.at (digits 4 c.args.first) k.new.out k.result 4 (omega (arith, c.requires, digits_long 4 c.args.first)) k.ensures,
     )
 
 pub put_byte-requires : goal.put_byte-requires
@@ -19,7 +19,7 @@ put_byte-requires c =
     let k = c.put_digits-next in
     omega (
       arith,
-      room_after c.args.out.now c.args.at (digits 4 c.args.first ++ digits 4 c.args.second) k.new.0 k.result 1
+      room_after c.args.out.now c.args.at (digits 4 c.args.first ++ digits 4 c.args.second) k.new.out k.result 1
           (omega (arith, c.requires, pair-long 4 c.args.first c.args.second))
           (placed-append (omega (arith, c.requires)) c.put_digits-middle.ensures k.ensures),
     )

@@ -13,7 +13,7 @@ put_byte-requires c =
     let k = c.put_head-next in
     omega (
       arith,
-      room_after c.args.out.now c.args.at (digits 2 143 ++ digits 2 c.args.rule) k.new.0 k.result 1
+      room_after c.args.out.now c.args.at (digits 2 143 ++ digits 2 c.args.rule) k.new.out k.result 1
           (omega (arith, c.requires, pair-long 2 143 c.args.rule)) k.ensures,
     )
 

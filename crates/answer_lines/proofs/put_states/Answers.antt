@@ -28,7 +28,7 @@ loop-k-preserved c =
     let l = c.loop-k in
     let p = c.put_digits-next in
     listing_more (digits 2) 2 (digits_long 2) c.args.states.now c.args.out.now c.args.at (omega (arith, c.requires)) l.out l.next l.k 0
-    p.new.0 p.result l.invariant (omega arith) p.ensures
+    p.new.out p.result l.invariant (omega arith) p.ensures
 
 pub shape_of-out : goal.shape_of-out
 shape_of-out c =

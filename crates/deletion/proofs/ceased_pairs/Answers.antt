@@ -8,9 +8,9 @@ use Rattle.session.proofs.Decoded.{Bounded, layout_limits}
 use Rattle.session_parts.proofs.Parts.{marks-long}
 use Rattle.deletion.proofs.Counting.{gone-states, gone-counted}
 use Rattle.deletion.proofs.ceased_pairs.Goals as goal
-use Rattle.deletion.proofs.ceased_pairs.Goals.{After-copy_words, After-shared_slice_known-4-1}
+use Rattle.deletion.proofs.ceased_pairs.Goals.{After-copy_words, Start}
 
-abbrev bounded : (c : After-shared_slice_known-4-1) → Bounded c.args.session.now
+abbrev bounded : (c : Start) → Bounded c.args.session.now
 bounded c = layout_limits c.args.session.now c.requires.0
 
 -- the marks are saved whole
@@ -23,11 +23,11 @@ bounds-session-0 c =
 
 pub bounds-session-1 : goal.bounds-session-1
 bounds-session-1 c =
-    omega (arith, bounded (goal.at.bounds-session-1 c).After-shared_slice_known-4-1)
+    omega (arith, bounded (goal.at.bounds-session-1 c).Start)
 
 pub overflow_cast-nodes : goal.overflow_cast-nodes
 overflow_cast-nodes c =
-    omega (arith, bounded c)
+    omega (arith, bounded (goal.at.overflow_cast-nodes c).Start)
 
 pub copy_words-requires : goal.copy_words-requires
 copy_words-requires c =
@@ -35,7 +35,7 @@ copy_words-requires c =
 
 pub pairs_in-requires : goal.pairs_in-requires
 pairs_in-requires c =
-    let b = bounded (goal.at.pairs_in-requires c).After-shared_slice_known-4-1 in
+    let b = bounded (goal.at.pairs_in-requires c).Start in
     let taken = c.take_away.ensures in (
       b.few_states,
       b.few_nodes,

@@ -28,8 +28,8 @@ layout c = let a = c.args in (edit-passed (kind_of a.inserts) a.session.now (len
 left-layout : (c : After-edit_proper-effect) → in_layout c.edit_proper-effect.new.session ≡ true
 left-layout c =
     let a = c.args in
-    let w = edit-passed (kind_of a.inserts) a.session.now (length a.changes.now) a.start a.end (passed «Else-broken-ne0») in
-    called-layout (kind_of a.inserts) (session «Else-broken-ne0») a.start a.end w.0 w.2 c.edit_proper-effect.result.trials c.edit_proper-effect.new.session c.edit_proper-effect.ensures.0
+    let w = edit-passed (kind_of a.inserts) a.session.now (length a.changes.now) a.start a.end (passed (c.before.before.before)) in
+    called-layout (kind_of a.inserts) (session (c.before.before.before)) a.start a.end w.0 w.2 c.edit_proper-effect.result.trials c.edit_proper-effect.new.session c.edit_proper-effect.ensures.0
 
 pub returns-then-broken-ne0 : goal.returns-then-broken-ne0
 returns-then-broken-ne0 c =

@@ -8,18 +8,18 @@ use Rattle.editing.proofs.Refining.{start-waits, refined-at}
 use borrow.Author.Rules.{rules}
 use Rattle.worklist.specs.Waiting.{waiting_words}
 use Rattle.editing.proofs.refine_at.Goals as goal
-use Rattle.editing.proofs.refine_at.Goals.{After-shared_slice_known-3-1}
+use Rattle.editing.proofs.refine_at.Goals.{Start}
 
-abbrev bounded : (c : After-shared_slice_known-3-1) → Bounded c.args.session.now
+abbrev bounded : (c : Start) → Bounded c.args.session.now
 bounded c = layout_limits c.args.session.now c.requires.0
 
 pub bounds-session-1 : goal.bounds-session-1
 bounds-session-1 c =
-    omega (arith, bounded (goal.at.bounds-session-1 c).After-shared_slice_known-3-1)
+    omega (arith, bounded (goal.at.bounds-session-1 c).Start)
 
 pub overflow_cast-nodes : goal.overflow_cast-nodes
 overflow_cast-nodes c =
-    omega (arith, bounded c)
+    omega (arith, bounded (goal.at.overflow_cast-nodes c).Start)
 
 pub put_in-requires : goal.put_in-requires
 put_in-requires c =
@@ -39,4 +39,4 @@ pub returns : goal.returns
 returns c =
     let put = c.put_in in
     refined-at c.args.session.now c.requires.0 _ _ c.links_of.ensures c.edges_of.ensures _ _ _ _ c.refine_few.ensures
-    c.requires.3 c.requires.4 c.args.node (start-waits (replicate waiting_words 0) put.new.0 c.args.node put.ensures.1)
+    c.requires.3 c.requires.4 c.args.node (start-waits (replicate waiting_words 0) put.new.waiting c.args.node put.ensures.1)

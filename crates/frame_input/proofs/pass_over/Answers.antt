@@ -40,7 +40,7 @@ falls : (c : After-gather-gathered) → length (block «At-loop-at») - c.gather
 falls c =
     let l = c.loop-at in
     let g = c.gather-gathered in
-    let past = gathered_at (block «At-loop-at») l.front l.line l.at g.new.0 g.result.used g.result.at g.result.ended (on c).0 g.ensures in
+    let past = gathered_at (block «At-loop-at») l.front l.line l.at g.new.front g.result.used g.result.at g.result.ended (on c).0 g.ensures in
     omega (arith, past.0, past.1)
 
 inside : (c : After-gather-gathered) → c.gather-gathered.result.used ≤ length c.gather-gathered.new.front

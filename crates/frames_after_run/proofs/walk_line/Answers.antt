@@ -11,26 +11,26 @@ use Rattle.promises.specs.Answers.{told_order}
 use Rattle.frames.proofs.Few.{ordered-few}
 use Rattle.frames.proofs.Takes.{printed-front}
 use Rattle.frames_after_run.proofs.walk_line.Goals as goal
-use Rattle.frames_after_run.proofs.walk_line.Goals.{After-put_order-arg-1}
+use Rattle.frames_after_run.proofs.walk_line.Goals.{In-Listed}
 
 -- as many states as the trigger may have
-few : (c : After-put_order-arg-1) → c.answer-1.given.0.0 ≤ max_states
+few : (c : In-Listed) → c.answer-1.given.0.0 ≤ max_states
 few c = let o = c.order-walk in ordered-few c.args.session.now o.result c.answer-1.given.0.0 o.ensures (ap told_order c.answer-1.given.1)
 
-short : (c : After-put_order-arg-1) → c.answer-1.given.0.0 ≤ length c.order-walk.result.states
+short : (c : In-Listed) → c.answer-1.given.0.0 ≤ length c.order-walk.result.states
 short c = omega (arith, few c, ap length c.order-walk.ensures.states ∙ length-section max_states _)
 
 pub slice_bounds-states-end : goal.slice_bounds-states-end
 slice_bounds-states-end c =
-    short c
+    short (goal.at.slice_bounds-states-end c).In-Listed
 
 pub slice_bounds-put_order-end : goal.slice_bounds-put_order-end
 slice_bounds-put_order-end c =
-    sym (length-take-le _ _ (short (goal.at.slice_bounds-put_order-end c).After-put_order-arg-1))
+    sym (length-take-le _ _ (short (goal.at.slice_bounds-put_order-end c).In-Listed))
 
 pub put_order-requires : goal.put_order-requires
 put_order-requires c =
-    omega (arith, c.requires, few (goal.at.put_order-requires c).After-put_order-arg-1, length-take-le c.answer-1.given.0.0 c.order-walk.result.states (short (goal.at.put_order-requires c).After-put_order-arg-1))
+    omega (arith, c.requires, few (goal.at.put_order-requires c).In-Listed, length-take-le c.answer-1.given.0.0 c.order-walk.result.states (short (goal.at.put_order-requires c).In-Listed))
 
 pub returns-in-Listed : goal.returns-in-Listed
 returns-in-Listed c =

@@ -20,7 +20,7 @@ returns c =
     let k = c.kept_below-inverted in
     record {
       answer = l.result;
-      loads = subst (λ (x : Given). Loaded x a.session.now a.changes.now l.result l.new.0 l.new.1.1.1.1.1.1.1.1.0)
+      loads = subst (λ (x : Given). Loaded x a.session.now a.changes.now l.result l.new.session l.new.changes)
           (read_parts (memory a.counts.now a.words.now a.session.now a.changes.now a.out.now) k.result k.ensures) l.ensures;
       prints = rw (← c.move_on.ensures) (printed-front _ _ _ _ c.put_answer.ensures);
     }

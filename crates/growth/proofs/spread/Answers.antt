@@ -16,7 +16,7 @@ overflow_cast-next c =
 pub loop-next-init : goal.loop-next-init
 loop-next-init c =
     let out = c.take_out in
-    spreading_start c.requires.sound.1 c.args.fresh.now c.args.v c.calling-able.result c.args.trials.now out.new.0
+    spreading_start c.requires.sound.1 c.args.fresh.now c.args.v c.calling-able.result c.args.trials.now out.new.waiting
     (search rules) (search rules) out.ensures.0
 
 pub overflow_cast-start : goal.overflow_cast-start

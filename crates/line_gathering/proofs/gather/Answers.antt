@@ -25,7 +25,7 @@ loop-next-preserved c =
     let l = c.loop-next in
     let p = c.push-len in
     sofar_more a.front.now a.used a.block.now a.at l.front l.len l.next l.invariant (omega arith) (λ e. omega arith)
-    p.new.0 p.result p.ensures
+    p.new.front p.result p.ensures
 
 pub shape_of-front : goal.shape_of-front
 shape_of-front c =

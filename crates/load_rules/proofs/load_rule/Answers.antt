@@ -23,27 +23,27 @@ rules c =
 abbrev Left : ℕ → tie.Start → Type 0
 Left k s = (n : ℕ) → n ≡ verdict (drop k (rules s)) → n ≡ verdict (rules s)
 
-left_1 : (c : Else-too_short) → Left 1 «Start»
+left_1 : (c : Else-too_short) → Left 1 (c.before.before.before.before.before.before.before.before.before)
 left_1 c n h = row-passed 3 _ _ _ c.too_short.ensures n c.if-too_short.false h
 
-left_2 : (c : Else-states_wrong) → Left 2 «Start»
+left_2 : (c : Else-states_wrong) → Left 2 (c.before.before.before.before.before.before.before.before.before.before.before)
 left_2 c n h = left_1 «Else-too_short» n (row-passed 4 _ _ _ c.states_wrong.ensures n c.if-states_wrong.false h)
 
-left_3 : (c : Else-links_wrong) → Left 3 «Start»
+left_3 : (c : Else-links_wrong) → Left 3 (c.before.before.before.before.before.before.before.before.before.before.before.before.before)
 left_3 c n h = left_2 «Else-states_wrong» n (row-passed 5 _ _ _ c.links_wrong.ensures n c.if-links_wrong.false h)
 
-left_4 : (c : Else-samples-gt-MAX_NODES) → Left 4 «Start»
+left_4 : (c : Else-samples-gt-MAX_NODES) → Left 4 (c.before.before.before.before.before.before.before.before.before.before.before.before.before.before)
 left_4 c n h =
     let nodes = length c.args.samples.now in
     left_3 «Else-links_wrong» n (row-passed 6 _ _ _ refl n (le-ltb max_nodes nodes c.if-samples-gt-MAX_NODES.false) h)
 
-left_5 : (c : Else-edges_wrong) → Left 5 «Start»
+left_5 : (c : Else-edges_wrong) → Left 5 (c.before.before.before.before.before.before.before.before.before.before.before.before.before.before.before.before)
 left_5 c n h = left_4 «Else-samples-gt-MAX_NODES» n (row-passed 7 _ _ _ c.edges_wrong.ensures n c.if-edges_wrong.false h)
 
-left_6 : (c : Else-nodes_wrong) → Left 6 «Start»
+left_6 : (c : Else-nodes_wrong) → Left 6 (c.before.before.before.before.before.before.before.before.before.before.before.before.before.before.before.before.before.before)
 left_6 c n h = left_5 «Else-edges_wrong» n (row-passed 8 _ _ _ c.nodes_wrong.ensures n c.if-nodes_wrong.false h)
 
-left_7 : (c : Else-order_wrong) → Left 7 «Start»
+left_7 : (c : Else-order_wrong) → Left 7 (c.before.before.before.before.before.before.before.before.before.before.before.before.before.before.before.before.before.before.before.before)
 left_7 c n h = left_6 «Else-nodes_wrong» n (row-passed 9 _ _ _ c.order_wrong.ensures n c.if-order_wrong.false h)
 
 zero : 0 ≡ verdict []

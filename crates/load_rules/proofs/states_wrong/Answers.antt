@@ -32,7 +32,7 @@ lists c =
 few : (c : Else-links-masks) → c.args.masks ≤ max_states
 few c =
     let n = c.args.masks in
-    ltb-false max_states n (or_false_r (eqb n 0) (ltb max_states n) (sym (number «Joined-masks-eq0») ∙ c.if-masks-gt-MAX_STATES.false-raw))
+    ltb-false max_states n (or_false_r (eqb n 0) (ltb max_states n) (sym (number (c.before.before.before)) ∙ c.if-masks-gt-MAX_STATES.false-raw))
 
 pub overflow_cast-masks : goal.overflow_cast-masks
 overflow_cast-masks c =

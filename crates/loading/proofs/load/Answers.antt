@@ -29,12 +29,12 @@ samples_fit : (c : After-load_rule-broken) → below (2 ^ word_bits) c.args.samp
 samples_fit c = below_make (2 ^ word_bits) c.args.samples.now (λ i l. omega (arith, c.shared_slice_known-4-1.given i))
 
 -- no rule is broken
-passed : (c : Else-broken-ne0) → verdict (load_rules (length c.args.session.now) (length c.args.changes.now) (loaded «Start»)) ≡ 0
+passed : (c : Else-broken-ne0) → verdict (load_rules (length c.args.session.now) (length c.args.changes.now) (loaded (c.before.before.before.before.before.before.before.before.before.before))) ≡ 0
 passed c = sym c.load_rule-broken.ensures ∙ c.if-broken-ne0.false
 
 layout : (c : After-write_sections) → in_layout c.write_sections.new.session ≡ true
 layout c =
-    load-layout (loaded «Start») c.args.session.now (length c.args.changes.now) (passed «Else-broken-ne0») (masks_fit «After-load_rule-broken») (values_fit «After-load_rule-broken») (samples_fit «After-load_rule-broken»)
+    load-layout (loaded (c.before.before.before.before.before.before.before.before.before.before.before.before)) c.args.session.now (length c.args.changes.now) (passed «Else-broken-ne0») (masks_fit «After-load_rule-broken») (values_fit «After-load_rule-broken») (samples_fit «After-load_rule-broken»)
     c.write_sections.new.session c.write_sections.ensures
 
 pub returns-then-broken-ne0 : goal.returns-then-broken-ne0

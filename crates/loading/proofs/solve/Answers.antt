@@ -8,18 +8,18 @@ use Rattle.pair_tables.proofs.Zeros.{zeros}
 use Rattle.refinement.proofs.Systems.{held_sound}
 use Rattle.loading.proofs.Solving.{all_wait, held-inside, held_solved}
 use Rattle.loading.proofs.solve.Goals as goal
-use Rattle.loading.proofs.solve.Goals.{After-shared_slice_known-2-1}
+use Rattle.loading.proofs.solve.Goals.{Start}
 
-abbrev bounded : (c : After-shared_slice_known-2-1) → Bounded c.args.session.now
+abbrev bounded : (c : Start) → Bounded c.args.session.now
 bounded c = layout_limits c.args.session.now c.requires.0
 
 pub bounds-session-1 : goal.bounds-session-1
 bounds-session-1 c =
-    omega (arith, bounded (goal.at.bounds-session-1 c).After-shared_slice_known-2-1)
+    omega (arith, bounded (goal.at.bounds-session-1 c).Start)
 
 pub overflow_cast-nodes : goal.overflow_cast-nodes
 overflow_cast-nodes c =
-    omega (arith, bounded c)
+    omega (arith, bounded (goal.at.overflow_cast-nodes c).Start)
 
 pub refine_indexed-requires : goal.refine_indexed-requires
 refine_indexed-requires c =

@@ -11,7 +11,7 @@ use Rattle.promises.specs.Rules.{Given, given}
 use Rattle.promises.proofs.Loads.{load-counts, load-edges}
 use Rattle.loading.proofs.Sections.{sections_written}
 use Rattle.loading.proofs.write_sections.Goals as goal
-use Rattle.loading.proofs.write_sections.Goals.{After-fill_edges, After-fill_halves, After-fill_halves-2, After-fill_halves-3, After-fill_words, Start}
+use Rattle.loading.proofs.write_sections.Goals.{After-fill_edges, After-fill_halves, After-fill_words, Start}
 
 abbrev loaded : Start → Given
 loaded c = given c.args.masks.now c.args.values.now c.args.links.now c.args.inverted c.args.samples.now c.args.starts.now c.args.ends.now
@@ -32,16 +32,16 @@ long0 : (c : Start) → length (X0 c) ≡ length c.args.session.now
 long0 c = simp length-set
 
 abbrev X1 : After-fill_halves → List ℕ
-X1 c = put_mid masks_at max_states (X0 «Start») c.fill_halves.new.place
+X1 c = put_mid masks_at max_states (X0 (c.before.before.before.before.before.before.before.before.before.before)) c.fill_halves.new.place
 
 long1 : (c : After-fill_halves) → length (X1 c) ≡ length c.args.session.now
-long1 c = same_len_mid masks_at max_states (X0 «Start») c.fill_halves.new.place c.fill_halves.auto.0 ∙ long0 «Start»
+long1 c = same_len_mid masks_at max_states (X0 (c.before.before.before.before.before.before.before.before.before.before)) c.fill_halves.new.place c.fill_halves.auto.0 ∙ long0 (c.before.before.before.before.before.before.before.before.before.before)
 
-abbrev X2 : After-fill_halves-2 → List ℕ
-X2 c = put_mid values_at max_states (X1 «After-fill_halves») c.fill_halves-2.new.place
+abbrev X2 : After-fill_halves → List ℕ
+X2 c = put_mid values_at max_states (X1 «After-shared_slice_known-4-1») c.fill_halves.new.place
 
-long2 : (c : After-fill_halves-2) → length (X2 c) ≡ length c.args.session.now
-long2 c = same_len_mid values_at max_states (X1 «After-fill_halves») c.fill_halves-2.new.place c.fill_halves-2.auto.0 ∙ long1 «After-fill_halves»
+long2 : (c : After-fill_halves) → length (X2 c) ≡ length c.args.session.now
+long2 c = same_len_mid values_at max_states (X1 «After-shared_slice_known-4-1») c.fill_halves.new.place c.fill_halves.auto.0 ∙ long1 «After-shared_slice_known-4-1»
 
 abbrev X3 : After-fill_words → List ℕ
 X3 c = put_mid links_at max_states (X2 «After-fill_halves-2») c.fill_words.new.place
@@ -49,11 +49,11 @@ X3 c = put_mid links_at max_states (X2 «After-fill_halves-2») c.fill_words.new
 long3 : (c : After-fill_words) → length (X3 c) ≡ length c.args.session.now
 long3 c = same_len_mid links_at max_states (X2 «After-fill_halves-2») c.fill_words.new.place c.fill_words.auto.0 ∙ long2 «After-fill_halves-2»
 
-abbrev X4 : After-fill_halves-3 → List ℕ
-X4 c = put_mid samples_at max_nodes (X3 «After-fill_words») c.fill_halves-3.new.place
+abbrev X4 : After-fill_words → List ℕ
+X4 c = put_mid samples_at max_nodes (X3 «After-fill_halves-2») c.fill_halves-2.new.place
 
-long4 : (c : After-fill_halves-3) → length (X4 c) ≡ length c.args.session.now
-long4 c = same_len_mid samples_at max_nodes (X3 «After-fill_words») c.fill_halves-3.new.place c.fill_halves-3.auto.0 ∙ long3 «After-fill_words»
+long4 : (c : After-fill_words) → length (X4 c) ≡ length c.args.session.now
+long4 c = same_len_mid samples_at max_nodes (X3 «After-fill_halves-2») c.fill_halves-2.new.place c.fill_halves-2.auto.0 ∙ long3 «After-fill_halves-2»
 
 abbrev X5 : After-fill_edges → List ℕ
 X5 c = put_mid edges_at max_edges (X4 «After-fill_halves-3») c.fill_edges.new.place
@@ -117,7 +117,7 @@ fill_halves-requires-2 c =
 
 pub slice_bounds-fill_words-end : goal.slice_bounds-fill_words-end
 slice_bounds-fill_words-end c =
-    omega (arith, long2 (goal.at.slice_bounds-fill_words-end c).After-fill_halves-2, bounds (goal.at.slice_bounds-fill_words-end c).Start)
+    omega (arith, long2 (goal.at.slice_bounds-fill_words-end c).After-fill_halves, bounds (goal.at.slice_bounds-fill_words-end c).Start)
 
 pub fill_words-requires : goal.fill_words-requires
 fill_words-requires c =
@@ -133,7 +133,7 @@ fill_halves-requires-3 c =
 
 pub slice_bounds-fill_edges-end : goal.slice_bounds-fill_edges-end
 slice_bounds-fill_edges-end c =
-    omega (arith, long4 (goal.at.slice_bounds-fill_edges-end c).After-fill_halves-3, bounds (goal.at.slice_bounds-fill_edges-end c).Start)
+    omega (arith, long4 (goal.at.slice_bounds-fill_edges-end c).After-fill_words, bounds (goal.at.slice_bounds-fill_edges-end c).Start)
 
 pub fill_edges-requires : goal.fill_edges-requires
 fill_edges-requires c =

@@ -17,6 +17,23 @@ pub loop-u-init : goal.loop-u-init
 loop-u-init c =
     let a = c.args in (search rules, fun_ext zero-members ∙ gained-none none (agreeing a.masks.now a.values.now a.sample))
 
+pub loop-u-preserved : goal.loop-u-preserved
+loop-u-preserved c =
+    let a = c.args in
+    let l = c.loop-u in
+    let P : Set = agreeing a.masks.now a.values.now a.sample in
+    let small : get_or a.masks.now l.u 0 < 2 ^ word_bits = below-take (2 ^ word_bits) a.masks.now c.requires.values_len.2 l.u (search rules) in (
+      search rules,
+      ⊎_elim
+          (λ w.
+          ap members w.2
+          ∙ gained-more none P l.u l.invariant.1 (agreeing_yes a.masks.now a.values.now a.sample l.u small w.0.taken) w.1.ensures)
+          (λ w.
+          ap members w.1
+          ∙ gained_pass none P l.u l.invariant.1 (agreeing_no a.masks.now a.values.now a.sample l.u small w.0.left))
+          c.if-values-u-eq0.branch,
+    )
+
 pub returns : goal.returns
 returns c =
     let a = c.args in

@@ -31,13 +31,13 @@ returns-then-left-word c =
     let t = c.take_out in
     let called = c.call_in in
     turned_cleared a.links.now a.edges.now a.settled.now a.tentative.now a.waiting.now a.v (omega (arith, c.requires.settled_len))
-    t.last.0 (t.ensures.0 ∙ sym c.requires.settled_len.2) t.ensures.1 c.left_at-left.result c.left_at-left.ensures
-    called.new.0 c.difference.result c.calling-shaken.result (called.ensures.0 ∙ sym c.requires.settled_len.2) c.difference.ensures c.calling-shaken.ensures called.ensures.1
+    t.new.waiting (t.ensures.0 ∙ sym c.requires.settled_len.2) t.ensures.1 c.left_at-left.result c.left_at-left.ensures
+    called.new.waiting c.difference.result c.calling-shaken.result (called.ensures.0 ∙ sym c.requires.settled_len.2) c.difference.ensures c.calling-shaken.ensures called.ensures.1
 
 pub returns-else-left-word : goal.returns-else-left-word
 returns-else-left-word c =
     let a = c.args in
     let t = c.take_out in
     turned_stayed a.links.now a.edges.now a.settled.now a.tentative.now a.waiting.now a.v (omega (arith, c.requires.settled_len))
-    t.last.0 (t.ensures.0 ∙ sym c.requires.settled_len.2) t.ensures.1 c.left_at-left.result c.left_at-left.ensures
+    t.new.waiting (t.ensures.0 ∙ sym c.requires.settled_len.2) t.ensures.1 c.left_at-left.result c.left_at-left.ensures
     c.if-left-word.false

@@ -40,4 +40,4 @@ overflow_cast-count c =
 pub returns : goal.returns
 returns c =
     let w = c.write_changes-count in
-    reported c.args.session.now c.requires.0 c.args.before.now c.args.trials w.result c.args.room.now w.new.0 c.answered.result w.ensures c.answered.ensures
+    reported c.args.session.now c.requires.0 c.args.before.now c.args.trials w.result c.args.room.now w.new.changes c.answered.result w.ensures c.answered.ensures

@@ -16,16 +16,16 @@ use Rattle.bits.proofs.Words.{zero-members}
 use Rattle.section_tests.proofs.Unadmitted.{sparse-none, halves_small, sparse-turned}
 use Rattle.sections.proofs.Fills.{front_read, front-inside}
 use Rattle.section_tests.proofs.all_admitted.Goals as goal
-use Rattle.section_tests.proofs.all_admitted.Goals.{After-narrow, After-shared_slice_known-4-1}
+use Rattle.section_tests.proofs.all_admitted.Goals.{After-narrow, Start}
 
-abbrev nodes : After-shared_slice_known-4-1 → ℕ
+abbrev nodes : Start → ℕ
 nodes c = length c.args.marks.now
 
 abbrev zeros : List ℕ
 zeros = replicate max_nodes 0
 
 -- the array has room for them
-room : (c : After-shared_slice_known-4-1) → nodes c ≡ length (take (nodes c) zeros)
+room : (c : Start) → nodes c ≡ length (take (nodes c) zeros)
 room c = sym (length-take-le (nodes c) zeros c.requires.samples_value.1)
 
 -- the array holds the samples, and they are what is read of it
@@ -35,7 +35,7 @@ held c = c.narrow.ensures ∙ halves_small c.args.samples.now 0 refl c.requires.
 samples-read : (c : After-narrow)
     → take (nodes «After-shared_slice_known-4-1») (c.narrow.new.place ++ drop (nodes «After-shared_slice_known-4-1») zeros) ≡ c.args.samples.now
 samples-read c =
-    front_read zeros c.narrow.new.place c.args.samples.now (nodes «After-shared_slice_known-4-1») (held c) c.requires.samples_len.0
+    front_read zeros c.narrow.new.place c.args.samples.now (nodes (c.before.before.before.before.before.before.before.before)) (held c) c.requires.samples_len.0
 
 pub returns-then-used-eq0 : goal.returns-then-used-eq0
 returns-then-used-eq0 c =
@@ -49,15 +49,15 @@ returns-then-used-eq0 c =
 
 pub slice_bounds-narrow-end : goal.slice_bounds-narrow-end
 slice_bounds-narrow-end c =
-    room (goal.at.slice_bounds-narrow-end c).After-shared_slice_known-4-1
+    room (goal.at.slice_bounds-narrow-end c).Start
 
 pub narrow-requires : goal.narrow-requires
 narrow-requires c =
-    (c.requires.samples_len.0 ∙ room (goal.at.narrow-requires c).After-shared_slice_known-4-1, omega arith)
+    (c.requires.samples_len.0 ∙ room (goal.at.narrow-requires c).Start, omega arith)
 
 pub slice_bounds-words-end-2 : goal.slice_bounds-words-end-2
 slice_bounds-words-end-2 c =
-    front-inside c.narrow.new.place c.args.samples.now (drop (nodes (goal.at.slice_bounds-words-end-2 c).After-shared_slice_known-4-1) zeros) (nodes (goal.at.slice_bounds-words-end-2 c).After-shared_slice_known-4-1) (held (goal.at.slice_bounds-words-end-2 c).After-narrow) c.requires.samples_len.0
+    front-inside c.narrow.new.place c.args.samples.now (drop (nodes (goal.at.slice_bounds-words-end-2 c).Start) zeros) (nodes (goal.at.slice_bounds-words-end-2 c).Start) (held (goal.at.slice_bounds-words-end-2 c).After-narrow) c.requires.samples_len.0
 
 pub slice_bounds-both_admitted-end : goal.slice_bounds-both_admitted-end
 slice_bounds-both_admitted-end c =

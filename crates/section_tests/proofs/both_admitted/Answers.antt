@@ -16,13 +16,13 @@ use Rattle.session.specs.Tests.{sparse}
 use Rattle.session.proofs.Tables.{whole_below}
 use Rattle.section_tests.proofs.Unadmitted.{admitted, admitted-whole, admitted_parts}
 use Rattle.section_tests.proofs.both_admitted.Goals as goal
-use Rattle.section_tests.proofs.both_admitted.Goals.{After-shared_slice_known-4-1}
+use Rattle.section_tests.proofs.both_admitted.Goals.{Start}
 
 front : (n : ℕ) (xs : List ℕ) → n ≤ length xs → n ≡ length (take n xs)
 front n xs l = sym (length-take-le n xs l)
 
 -- what the two parts together say
-parts : (c : After-shared_slice_known-4-1) → let a = c.args in half_bits ≤ length a.masks.now
+parts : (c : Start) → let a = c.args in half_bits ≤ length a.masks.now
     → let part : List ℕ → List ℕ → ℕ → Bool = λ ms vs k. all_below (length ms) (admitted a.samples.now a.marks.now a.turned ms vs k) in
     (low high : Bool) → low ≡ part (take half_bits a.masks.now) (take half_bits a.values.now) 0
     → high
@@ -79,7 +79,7 @@ returns-then-not-half_admitted c =
     let vs = a.values.now in
     let high = all_below (length (take (length ms - half_bits) (drop half_bits ms))) (admitted a.samples.now a.marks.now a.turned (take (length ms - half_bits) (drop half_bits ms)) (take (length vs - half_bits) (drop half_bits vs)) half_bits) in
     ap (λ (b : Bool). b && high) (sym (not-true c.half_admitted-2.result c.if-not-half_admitted.true-raw))
-    ∙ parts (goal.at.returns-then-not-half_admitted c).After-shared_slice_known-4-1 (omega arith) c.half_admitted-2.result high c.half_admitted-2.ensures refl
+    ∙ parts (goal.at.returns-then-not-half_admitted c).Start (omega arith) c.half_admitted-2.result high c.half_admitted-2.ensures refl
 
 pub half_admitted-requires-3 : goal.half_admitted-requires-3
 half_admitted-requires-3 c =
@@ -95,4 +95,4 @@ half_admitted-requires-3 c =
 pub returns : goal.returns
 returns c =
     ap (λ (b : Bool). b && c.half_admitted-3.result) (sym (not-false c.half_admitted-2.result c.if-not-half_admitted.false-raw))
-    ∙ parts (goal.at.returns c).After-shared_slice_known-4-1 (omega arith) c.half_admitted-2.result c.half_admitted-3.result c.half_admitted-2.ensures c.half_admitted-3.ensures
+    ∙ parts (goal.at.returns c).Start (omega arith) c.half_admitted-2.result c.half_admitted-3.result c.half_admitted-2.ensures c.half_admitted-3.ensures

@@ -19,13 +19,13 @@ use Rattle.session.specs.Tests.{sparse, halves}
 use Rattle.section_tests.proofs.Unadmitted.{sparse-none, halves_long, sparse-half, used_half, admitted}
 use Rattle.sections.proofs.Fills.{front_read, front-inside}
 use Rattle.section_tests.proofs.half_admitted.Goals as goal
-use Rattle.section_tests.proofs.half_admitted.Goals.{After-narrow, After-shared_slice_known-4-1}
+use Rattle.section_tests.proofs.half_admitted.Goals.{After-narrow, Start}
 
 abbrev zeros : List ℕ
 zeros = replicate max_nodes 0
 
 -- the array has room for them
-room : (c : After-shared_slice_known-4-1) → let n = length c.args.marks.now in n ≡ length (take n zeros)
+room : (c : Start) → let n = length c.args.marks.now in n ≡ length (take n zeros)
 room c = sym (length-take-le (length c.args.marks.now) zeros c.requires.marks_len_bound.0)
 
 -- what is read of the array
@@ -54,11 +54,11 @@ returns-then-some-eq0 c =
 
 pub slice_bounds-narrow-end : goal.slice_bounds-narrow-end
 slice_bounds-narrow-end c =
-    room (goal.at.slice_bounds-narrow-end c).After-shared_slice_known-4-1
+    room (goal.at.slice_bounds-narrow-end c).Start
 
 pub narrow-requires : goal.narrow-requires
 narrow-requires c =
-    (room (goal.at.narrow-requires c).After-shared_slice_known-4-1, omega (arith, c.requires.marks_len_bound.1))
+    (room (goal.at.narrow-requires c).Start, omega (arith, c.requires.marks_len_bound.1))
 
 pub slice_bounds-signs-end-2 : goal.slice_bounds-signs-end-2
 slice_bounds-signs-end-2 c =

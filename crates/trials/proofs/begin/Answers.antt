@@ -18,18 +18,18 @@ use borrow.Author.Rules.{rules}
 use Rattle.bits.specs.Word.{set_bits}
 use Rattle.edge_indexes.specs.Indexes.{starts_size}
 use Rattle.trials.proofs.begin.Goals as goal
-use Rattle.trials.proofs.begin.Goals.{After-shared_slice_known-4-1}
+use Rattle.trials.proofs.begin.Goals.{Start}
 
-abbrev bounded : (c : After-shared_slice_known-4-1) → Bounded c.args.session.now
+abbrev bounded : (c : Start) → Bounded c.args.session.now
 bounded c = layout_limits c.args.session.now c.requires.session_value.0
 
 pub bounds-session-1 : goal.bounds-session-1
 bounds-session-1 c =
-    omega (arith, bounded (goal.at.bounds-session-1 c).After-shared_slice_known-4-1)
+    omega (arith, bounded (goal.at.bounds-session-1 c).Start)
 
 pub overflow_cast-nodes : goal.overflow_cast-nodes
 overflow_cast-nodes c =
-    omega (arith, bounded c)
+    omega (arith, bounded (goal.at.overflow_cast-nodes c).Start)
 
 pub starts_for-places-requires : goal.starts_for-places-requires
 starts_for-places-requires c =
@@ -47,7 +47,7 @@ index_callers-requires c =
 
 pub slice_bounds-refine-end-3 : goal.slice_bounds-refine-end-3
 slice_bounds-refine-end-3 c =
-    let f = c.starts_for-places in sym (length-take-le f.result f.new.1.1.0 (omega (arith, f.ensures.0)))
+    let f = c.starts_for-places in sym (length-take-le f.result f.new.firsts (omega (arith, f.ensures.0)))
 
 pub refine-requires : goal.refine-requires
 refine-requires c =
@@ -56,7 +56,7 @@ refine-requires c =
       settled_len = (ap length c.marks_of.ensures ∙ marks-long xs c.requires.session_value.0, c.requires.session_value.1, c.call_all.ensures.0);
       sound = (
         held_sound xs c.requires.session_value.0 _ _ c.links_of-links.ensures c.edges_of-edges.ensures,
-        λ some. f.ensures.1 (λ none. some (length-take-le f.result f.new.1.1.0 (omega (arith, f.ensures.0)) ∙ none)),
+        λ some. f.ensures.1 (λ none. some (length-take-le f.result f.new.firsts (omega (arith, f.ensures.0)) ∙ none)),
         λ some. rw c.edges_of-edges.ensures c.requires.indexed,
         λ some. c.index_callers.ensures,
       );

@@ -10,4 +10,4 @@ pub returns : goal.returns
 returns c =
     let i = c.index_starts in
     let edges = c.args.edges.now in
-    (omega arith, λ some. subst (Started edges) (sym (take_all starts_size i.new.1.0 (omega (arith, i.ensures.long)))) i.ensures)
+    (omega arith, λ some. subst (Started edges) (sym (take_all starts_size i.new.firsts (omega (arith, i.ensures.long)))) i.ensures)

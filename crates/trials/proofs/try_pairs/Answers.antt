@@ -10,9 +10,9 @@ use Rattle.trials.proofs.Trying.{seeded, seeds-fit, trial-held}
 use Rattle.session.specs.Limits.{max_nodes}
 use Rattle.worklist.specs.Waiting.{waiting_words}
 use Rattle.trials.proofs.try_pairs.Goals as goal
-use Rattle.trials.proofs.try_pairs.Goals.{After-shared_slice_known-4-1, Start}
+use Rattle.trials.proofs.try_pairs.Goals.{Start}
 
-abbrev bounded : (c : After-shared_slice_known-4-1) → Bounded c.args.session.now
+abbrev bounded : (c : Start) → Bounded c.args.session.now
 bounded c = layout_limits c.args.session.now c.requires.session_value.0
 
 abbrev facts : (c : Start) → LayoutFacts c.args.session.now
@@ -20,11 +20,11 @@ facts c = layout-facts c.args.session.now c.requires.session_value.0
 
 pub bounds-session-1 : goal.bounds-session-1
 bounds-session-1 c =
-    omega (arith, bounded (goal.at.bounds-session-1 c).After-shared_slice_known-4-1)
+    omega (arith, bounded (goal.at.bounds-session-1 c).Start)
 
 pub overflow_cast-nodes : goal.overflow_cast-nodes
 overflow_cast-nodes c =
-    omega (arith, bounded c)
+    omega (arith, bounded (goal.at.overflow_cast-nodes c).Start)
 
 pub fresh_pairs-requires : goal.fresh_pairs-requires
 fresh_pairs-requires c =

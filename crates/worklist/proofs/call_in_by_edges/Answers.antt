@@ -26,7 +26,7 @@ loop-k-preserved c =
     let one = c.call_one in (
       omega (arith, c.loop-k-test.true),
       one.ensures.0,
-      leads-more a.edges.now (λ x. overlaps (get_or a.table.now x 0) a.word) a.node a.waiting.now c.loop-k.waiting one.new.0 c.loop-k.k c.loop-k.invariant.2 one.ensures.1,
+      leads-more a.edges.now (λ x. overlaps (get_or a.table.now x 0) a.word) a.node a.waiting.now c.loop-k.waiting one.new.waiting c.loop-k.k c.loop-k.invariant.2 one.ensures.1,
     )
 
 pub shape_of-waiting : goal.shape_of-waiting

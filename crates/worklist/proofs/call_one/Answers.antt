@@ -17,7 +17,7 @@ returns-then-meet c =
     let a = c.args in
     let P = test (goal.at.returns-then-meet c).Start in
     let put = c.put_in in
-    (put.ensures.0, one_in a.edge a.node P a.waiting.now put.new.0 c.if-edge-node.true (sym c.meet.ensures ∙ c.if-meet.true) put.ensures.1)
+    (put.ensures.0, one_in a.edge a.node P a.waiting.now put.new.waiting c.if-edge-node.true (sym c.meet.ensures ∙ c.if-meet.true) put.ensures.1)
 
 pub returns-else-meet : goal.returns-else-meet
 returns-else-meet c =
