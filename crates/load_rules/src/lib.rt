@@ -64,6 +64,7 @@ pub fn order_wrong(starts: &[u32], ends: &[u32]) -> bool
 }
 
 // The number of the first rule that a load breaks, and 0 where it breaks none.
+#[tactic(auto, unfolding(promises::specs::Rules::verdict))]
 pub fn load_rule(
     memory: usize,
     room: usize,

@@ -1,9 +1,7 @@
 use Prim.Native.Nat.{ℕ, suc, ◌+◌, ◌-◌, ◌≤◌}
 use borrow.Author.Rules.{rules}
-use borrow.Author.Tests.{not-true, not-false}
 use native.Mathlib.Omega.{arith}
 use mathlib.Core.Path.{◌≡◌, sym, ap, ◌∙◌}
-use mathlib.Core.Logic.{⊎_elim}
 use mathlib.Core.Bool.{not}
 use mathlib.Core.List.{List}
 use lib.ListN.{length, get_or}
@@ -12,6 +10,7 @@ use Rattle.simulation.proofs.Folds.{Folded, fold_start, fold_pass, fold_fault, f
 use Rattle.promises.specs.Rules.{precedes}
 use Rattle.load_rules.proofs.order_wrong.Invariants.{rises}
 use Rattle.load_rules.proofs.order_wrong.Goals as goal
+use Rattle.load_rules.proofs.order_wrong.Goals.{then-not-comes_before, else-not-comes_before}
 
 pub loop-k-init : goal.loop-k-init
 loop-k-init c =
@@ -31,10 +30,10 @@ loop-k-preserved c =
     let test : t.result ≡ P j = rw here t.ensures in (
       omega arith,
       rw next
-          (⊎_elim
-          (λ w. rw w.1 (fold_fault P n j (omega arith) (sym test ∙ not-true t.result w.0.taken)))
-          (λ w. rw w.1 (fold_pass P n l.faults j l.invariant.1 (omega arith) (sym test ∙ not-false t.result w.0.left)))
-          c.if-not-comes_before.branch),
+          (elim c.if-not-comes_before.branch [
+            | then-not-comes_before w ↦ rw w.faults-is (fold_fault P n j (omega arith) (sym test ∙ w.if-not-comes_before.true))
+            | else-not-comes_before w ↦ rw w.faults-is (fold_pass P n l.faults j l.invariant.1 (omega arith) (sym test ∙ w.if-not-comes_before.false))
+          ]),
     )
 
 pub returns : goal.returns
