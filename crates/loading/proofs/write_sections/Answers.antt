@@ -4,14 +4,14 @@ use native.Mathlib.Omega.{arith}
 use Prim.Native.Nat.{ℕ, ◌≤◌}
 use mathlib.Core.Path.{◌≡◌, ◌∙◌}
 use mathlib.Core.List.{List}
-use lib.ListN.{length, set, length-set}
+use lib.ListN.{length, set, length-set, take, drop}
 use borrow.Rule.Slice.PartMut.{put_mid, same_len_mid}
 use Rattle.session.specs.Limits.{inverted_at, masks_at, values_at, links_at, samples_at, edges_at, marks_at, fixed_size, max_changes, max_edges, max_nodes, max_states}
 use Rattle.promises.specs.Rules.{Given, given}
 use Rattle.promises.proofs.Loads.{load-counts, load-edges}
 use Rattle.loading.proofs.Sections.{sections_written}
 use Rattle.loading.proofs.write_sections.Goals as goal
-use Rattle.loading.proofs.write_sections.Goals.{After-fill_edges, After-fill_halves, After-fill_words, Start}
+use Rattle.loading.proofs.write_sections.Goals.{Start}
 
 abbrev loaded : Start → Given
 loaded c = given c.args.masks.now c.args.values.now c.args.links.now c.args.inverted c.args.samples.now c.args.starts.now c.args.ends.now
@@ -31,35 +31,55 @@ X0 c =
 long0 : (c : Start) → length (X0 c) ≡ length c.args.session.now
 long0 c = simp length-set
 
-abbrev X1 : After-fill_halves → List ℕ
-X1 c = put_mid masks_at max_states (X0 (c.before.before.before.before.before.before.before.before.before.before)) c.fill_halves.new.place
+abbrev X1 : Start → List ℕ → List ℕ
+X1 s p = put_mid masks_at max_states (X0 s) p
 
-long1 : (c : After-fill_halves) → length (X1 c) ≡ length c.args.session.now
-long1 c = same_len_mid masks_at max_states (X0 (c.before.before.before.before.before.before.before.before.before.before)) c.fill_halves.new.place c.fill_halves.auto.0 ∙ long0 (c.before.before.before.before.before.before.before.before.before.before)
+long1 : (s : Start) (p : List ℕ)
+    → length p ≡ length (take max_states (drop masks_at (X0 s)))
+    → length (X1 s p) ≡ length s.args.session.now
+long1 s p h1 = same_len_mid masks_at max_states (X0 s) p h1 ∙ long0 s
 
-abbrev X2 : After-fill_halves → List ℕ
-X2 c = put_mid values_at max_states (X1 «After-shared_slice_known-4-1») c.fill_halves.new.place
+abbrev X2 : Start → List ℕ → List ℕ → List ℕ
+X2 s p q = put_mid values_at max_states (X1 s p) q
 
-long2 : (c : After-fill_halves) → length (X2 c) ≡ length c.args.session.now
-long2 c = same_len_mid values_at max_states (X1 «After-shared_slice_known-4-1») c.fill_halves.new.place c.fill_halves.auto.0 ∙ long1 «After-shared_slice_known-4-1»
+long2 : (s : Start) (p q : List ℕ)
+    → length p ≡ length (take max_states (drop masks_at (X0 s)))
+    → length q ≡ length (take max_states (drop values_at (X1 s p)))
+    → length (X2 s p q) ≡ length s.args.session.now
+long2 s p q h1 h2 = same_len_mid values_at max_states (X1 s p) q h2 ∙ long1 s p h1
 
-abbrev X3 : After-fill_words → List ℕ
-X3 c = put_mid links_at max_states (X2 «After-fill_halves-2») c.fill_words.new.place
+abbrev X3 : Start → List ℕ → List ℕ → List ℕ → List ℕ
+X3 s p q r = put_mid links_at max_states (X2 s p q) r
 
-long3 : (c : After-fill_words) → length (X3 c) ≡ length c.args.session.now
-long3 c = same_len_mid links_at max_states (X2 «After-fill_halves-2») c.fill_words.new.place c.fill_words.auto.0 ∙ long2 «After-fill_halves-2»
+long3 : (s : Start) (p q r : List ℕ)
+    → length p ≡ length (take max_states (drop masks_at (X0 s)))
+    → length q ≡ length (take max_states (drop values_at (X1 s p)))
+    → length r ≡ length (take max_states (drop links_at (X2 s p q)))
+    → length (X3 s p q r) ≡ length s.args.session.now
+long3 s p q r h1 h2 h3 = same_len_mid links_at max_states (X2 s p q) r h3 ∙ long2 s p q h1 h2
 
-abbrev X4 : After-fill_words → List ℕ
-X4 c = put_mid samples_at max_nodes (X3 «After-fill_halves-2») c.fill_halves-2.new.place
+abbrev X4 : Start → List ℕ → List ℕ → List ℕ → List ℕ → List ℕ
+X4 s p q r t = put_mid samples_at max_nodes (X3 s p q r) t
 
-long4 : (c : After-fill_words) → length (X4 c) ≡ length c.args.session.now
-long4 c = same_len_mid samples_at max_nodes (X3 «After-fill_halves-2») c.fill_halves-2.new.place c.fill_halves-2.auto.0 ∙ long3 «After-fill_halves-2»
+long4 : (s : Start) (p q r t : List ℕ)
+    → length p ≡ length (take max_states (drop masks_at (X0 s)))
+    → length q ≡ length (take max_states (drop values_at (X1 s p)))
+    → length r ≡ length (take max_states (drop links_at (X2 s p q)))
+    → length t ≡ length (take max_nodes (drop samples_at (X3 s p q r)))
+    → length (X4 s p q r t) ≡ length s.args.session.now
+long4 s p q r t h1 h2 h3 h4 = same_len_mid samples_at max_nodes (X3 s p q r) t h4 ∙ long3 s p q r h1 h2 h3
 
-abbrev X5 : After-fill_edges → List ℕ
-X5 c = put_mid edges_at max_edges (X4 «After-fill_halves-3») c.fill_edges.new.place
+abbrev X5 : Start → List ℕ → List ℕ → List ℕ → List ℕ → List ℕ → List ℕ
+X5 s p q r t u = put_mid edges_at max_edges (X4 s p q r t) u
 
-long5 : (c : After-fill_edges) → length (X5 c) ≡ length c.args.session.now
-long5 c = same_len_mid edges_at max_edges (X4 «After-fill_halves-3») c.fill_edges.new.place c.fill_edges.auto.0 ∙ long4 «After-fill_halves-3»
+long5 : (s : Start) (p q r t u : List ℕ)
+    → length p ≡ length (take max_states (drop masks_at (X0 s)))
+    → length q ≡ length (take max_states (drop values_at (X1 s p)))
+    → length r ≡ length (take max_states (drop links_at (X2 s p q)))
+    → length t ≡ length (take max_nodes (drop samples_at (X3 s p q r)))
+    → length u ≡ length (take max_edges (drop edges_at (X4 s p q r t)))
+    → length (X5 s p q r t u) ≡ length s.args.session.now
+long5 s p q r t u h1 h2 h3 h4 h5 = same_len_mid edges_at max_edges (X4 s p q r t) u h5 ∙ long4 s p q r t h1 h2 h3 h4
 
 pub overflow_cast-session : goal.overflow_cast-session
 overflow_cast-session c =
@@ -109,7 +129,7 @@ fill_halves-requires c =
 
 pub slice_bounds-fill_halves-end-2 : goal.slice_bounds-fill_halves-end-2
 slice_bounds-fill_halves-end-2 c =
-    omega (arith, long1 (goal.at.slice_bounds-fill_halves-end-2 c).After-fill_halves, bounds (goal.at.slice_bounds-fill_halves-end-2 c).Start)
+    omega (arith, long1 (goal.at.slice_bounds-fill_halves-end-2 c).Start c.fill_halves.new.place c.fill_halves.auto.place, bounds (goal.at.slice_bounds-fill_halves-end-2 c).Start)
 
 pub fill_halves-requires-2 : goal.fill_halves-requires-2
 fill_halves-requires-2 c =
@@ -117,7 +137,7 @@ fill_halves-requires-2 c =
 
 pub slice_bounds-fill_words-end : goal.slice_bounds-fill_words-end
 slice_bounds-fill_words-end c =
-    omega (arith, long2 (goal.at.slice_bounds-fill_words-end c).After-fill_halves, bounds (goal.at.slice_bounds-fill_words-end c).Start)
+    omega (arith, long2 (goal.at.slice_bounds-fill_words-end c).Start c.fill_halves.new.place c.fill_halves-2.new.place c.fill_halves.auto.place c.fill_halves-2.auto.place, bounds (goal.at.slice_bounds-fill_words-end c).Start)
 
 pub fill_words-requires : goal.fill_words-requires
 fill_words-requires c =
@@ -125,7 +145,7 @@ fill_words-requires c =
 
 pub slice_bounds-fill_halves-end-3 : goal.slice_bounds-fill_halves-end-3
 slice_bounds-fill_halves-end-3 c =
-    omega (arith, long3 (goal.at.slice_bounds-fill_halves-end-3 c).After-fill_words, bounds (goal.at.slice_bounds-fill_halves-end-3 c).Start)
+    omega (arith, long3 (goal.at.slice_bounds-fill_halves-end-3 c).Start c.fill_halves.new.place c.fill_halves-2.new.place c.fill_words.new.place c.fill_halves.auto.place c.fill_halves-2.auto.place c.fill_words.auto.place, bounds (goal.at.slice_bounds-fill_halves-end-3 c).Start)
 
 pub fill_halves-requires-3 : goal.fill_halves-requires-3
 fill_halves-requires-3 c =
@@ -133,7 +153,7 @@ fill_halves-requires-3 c =
 
 pub slice_bounds-fill_edges-end : goal.slice_bounds-fill_edges-end
 slice_bounds-fill_edges-end c =
-    omega (arith, long4 (goal.at.slice_bounds-fill_edges-end c).After-fill_words, bounds (goal.at.slice_bounds-fill_edges-end c).Start)
+    omega (arith, long4 (goal.at.slice_bounds-fill_edges-end c).Start c.fill_halves.new.place c.fill_halves-2.new.place c.fill_words.new.place c.fill_halves-3.new.place c.fill_halves.auto.place c.fill_halves-2.auto.place c.fill_words.auto.place c.fill_halves-3.auto.place, bounds (goal.at.slice_bounds-fill_edges-end c).Start)
 
 pub fill_edges-requires : goal.fill_edges-requires
 fill_edges-requires c =
@@ -145,11 +165,11 @@ fill_edges-requires c =
 
 pub slice_bounds-clear-end : goal.slice_bounds-clear-end
 slice_bounds-clear-end c =
-    omega (arith, long5 (goal.at.slice_bounds-clear-end c).After-fill_edges, bounds (goal.at.slice_bounds-clear-end c).Start)
+    omega (arith, long5 (goal.at.slice_bounds-clear-end c).Start c.fill_halves.new.place c.fill_halves-2.new.place c.fill_words.new.place c.fill_halves-3.new.place c.fill_edges.new.place c.fill_halves.auto.place c.fill_halves-2.auto.place c.fill_words.auto.place c.fill_halves-3.auto.place c.fill_edges.auto.place, bounds (goal.at.slice_bounds-clear-end c).Start)
 
 pub shape_of-session : goal.shape_of-session
 shape_of-session c =
-    same_len_mid marks_at max_nodes (X5 (goal.at.shape_of-session c).After-fill_edges) c.clear.new.place c.clear.auto.0 ∙ long5 (goal.at.shape_of-session c).After-fill_edges
+    same_len_mid marks_at max_nodes (X5 (goal.at.shape_of-session c).Start c.fill_halves.new.place c.fill_halves-2.new.place c.fill_words.new.place c.fill_halves-3.new.place c.fill_edges.new.place) c.clear.new.place c.clear.auto.place ∙ long5 (goal.at.shape_of-session c).Start c.fill_halves.new.place c.fill_halves-2.new.place c.fill_words.new.place c.fill_halves-3.new.place c.fill_edges.new.place c.fill_halves.auto.place c.fill_halves-2.auto.place c.fill_words.auto.place c.fill_halves-3.auto.place c.fill_edges.auto.place
 
 pub returns : goal.returns
 returns c =
