@@ -1,5 +1,4 @@
 -- The edges above the place of the edge move down by one, and the last place becomes zero.
-use borrow.Author.Rules.{rules}
 use native.Mathlib.Omega.{arith}
 use Prim.Native.Nat.{ℕ, ◌-◌, ◌<◌}
 use mathlib.Core.Path.{refl, sym, ◌∙◌, ap}

@@ -1,5 +1,4 @@
 -- `first_edge` meets its contract: the edges from v on are those not below the number of (v, 0).
-use borrow.Author.Rules.{rules}
 use Rattle.simulation.specs.Ordered.{from}
 use Rattle.edges.proofs.first_edge.Goals as goal
 

@@ -1,9 +1,8 @@
-use borrow.Author.Rules.{rules}
 use native.Mathlib.Omega.{arith}
 use Prim.Native.Nat.{◌-◌}
 use mathlib.Core.Path.{◌≡◌, refl}
 use lib.ListN.{length}
-use Rattle.edges.proofs.Moves.{Lowered, lower_start, lower_step, lower_end}
+use Rattle.edges.proofs.Moves.{lower_start, lower_step, lower_end}
 use Rattle.edges.proofs.move_down.Goals as goal
 
 pub loop-k-init : goal.loop-k-init

@@ -1,10 +1,8 @@
 -- The words move down one by one, from the front, and the last place becomes zero.
-use borrow.Author.Rules.{rules}
-use native.Mathlib.Omega.{arith}
 use Prim.Native.Nat.{◌-◌}
-use mathlib.Core.Path.{◌≡◌, refl}
+use mathlib.Core.Path.{◌≡◌}
 use lib.ListN.{length}
-use Rattle.edges.proofs.Moves.{Lowered, lower_start, lower_step, lower_end}
+use Rattle.edges.proofs.Moves.{Lowered}
 use Rattle.edges.proofs.move_down.Given as goal
 
 abbrev pub invariant-loop-k : goal.invariant-loop-k

@@ -1,6 +1,5 @@
-use borrow.Author.Rules.{rules}
 use native.Mathlib.Omega.{arith}
-use Rattle.edges.proofs.Moves.{Raised, raise_start, raise_step, raise_end}
+use Rattle.edges.proofs.Moves.{raise_start, raise_step, raise_end}
 use Rattle.edges.proofs.move_up.Goals as goal
 
 pub loop-k-init : goal.loop-k-init

@@ -1,7 +1,5 @@
 -- The words move up one by one, from the back.
-use borrow.Author.Rules.{rules}
-use native.Mathlib.Omega.{arith}
-use Rattle.edges.proofs.Moves.{Raised, raise_start, raise_step, raise_end}
+use Rattle.edges.proofs.Moves.{Raised}
 use Rattle.edges.proofs.move_up.Given as goal
 
 abbrev pub invariant-loop-k : goal.invariant-loop-k

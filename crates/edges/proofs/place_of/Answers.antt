@@ -1,8 +1,6 @@
 use Prim.Native.Nat.{◌+◌, ◌-◌, ◌/◌, ◌<◌, ◌≤◌}
-use borrow.Author.Rules.{rules}
 use native.Mathlib.Omega.{arith}
 use mathlib.Core.Logic.{⊎_elim}
-use lib.ListN.{length}
 use Rattle.simulation.proofs.Search.{lt-or-le}
 use Rattle.simulation.proofs.Ordered.{rising-take, place, place-le, before-place, after-place}
 use Rattle.edges.proofs.place_of.Goals as goal

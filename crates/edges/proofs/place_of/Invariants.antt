@@ -1,11 +1,7 @@
 -- `place_of` meets its contract: the answer stays between low and high.
-use Prim.Native.Nat.{◌+◌, ◌-◌, ◌/◌, ◌<◌, ◌≤◌}
-use borrow.Author.Rules.{rules}
-use native.Mathlib.Omega.{arith}
-use mathlib.Core.Logic.{⊎_elim}
+use Prim.Native.Nat.{◌-◌, ◌≤◌}
 use lib.ListN.{length}
-use Rattle.simulation.proofs.Search.{lt-or-le}
-use Rattle.simulation.proofs.Ordered.{rising-take, place, place-le, before-place, after-place}
+use Rattle.simulation.proofs.Ordered.{place}
 use Rattle.edges.proofs.place_of.Given as goal
 
 abbrev pub invariant-loop-low : goal.invariant-loop-low

@@ -1,5 +1,4 @@
 -- The edges above the place of the new one move up by one; then it is stored.
-use borrow.Author.Rules.{rules}
 use native.Mathlib.Omega.{arith}
 use Prim.Native.Nat.{◌-◌, ◌<◌}
 use mathlib.Core.Path.{refl, sym, ◌∙◌}
@@ -50,7 +49,7 @@ bounds-edges-at c =
     let xs = c.args.edges.now in
     let at = c.place_of-at.result in
     let up = c.move_up in
-    rw (same_len_mid at (length xs - at) xs up.new.part up.auto.0) (stands (goal.at.bounds-edges-at c).After-place_of-at)
+    rw (same_len_mid at (length xs - at) xs up.new.part up.auto.part) (stands (goal.at.bounds-edges-at c).After-place_of-at)
 
 pub returns : goal.returns
 returns c =

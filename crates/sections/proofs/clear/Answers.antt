@@ -1,10 +1,7 @@
-use Prim.Native.Nat.{◌-◌}
-use borrow.Author.Rules.{rules}
 use native.Mathlib.Omega.{arith}
 use mathlib.Core.Path.{refl}
-use lib.ListN.{length}
 use Rattle.session.specs.Layout.{section}
-use Rattle.sections.proofs.Fills.{Filled, fill_start, fill_step, fill_end}
+use Rattle.sections.proofs.Fills.{fill_start, fill_step, fill_end}
 use Rattle.sections.proofs.clear.Goals as goal
 
 pub loop-i-init : goal.loop-i-init

@@ -1,13 +1,10 @@
-use Prim.Native.Nat.{ℕ, ◌-◌, ◌<◌}
-use borrow.Author.Rules.{rules}
+use Prim.Native.Nat.{ℕ, ◌<◌}
 use native.Mathlib.Omega.{arith}
 use mathlib.Core.Path.{◌∙◌, ap, refl, sym}
-use mathlib.Core.List.{List}
-use lib.ListN.{length, get_or}
-use Rattle.session.specs.Trigger.{edge_number}
+use lib.ListN.{get_or}
 use Rattle.session.specs.Layout.{table}
 use Rattle.session.proofs.Tables.{below-take}
-use Rattle.sections.proofs.Fills.{Filled, fill_start, fill_step, fill_end}
+use Rattle.sections.proofs.Fills.{fill_start, fill_step, fill_end}
 use Rattle.session.specs.Limits.{max_nodes}
 use Rattle.sections.proofs.copy_edges.Invariants.{number}
 use Rattle.sections.proofs.copy_edges.Goals as goal

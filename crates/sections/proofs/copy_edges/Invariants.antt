@@ -1,15 +1,9 @@
 -- `copy_edges` meets its contract: the places before i hold the numbers of the edges, which fit a word as their nodes are few.
-use Prim.Native.Nat.{ℕ, ◌-◌, ◌<◌}
-use borrow.Author.Rules.{rules}
-use native.Mathlib.Omega.{arith}
-use mathlib.Core.Path.{◌∙◌, ap, refl, sym}
+use Prim.Native.Nat.{ℕ, ◌-◌}
 use mathlib.Core.List.{List}
 use lib.ListN.{length, get_or}
 use Rattle.session.specs.Trigger.{edge_number}
-use Rattle.session.specs.Layout.{table}
-use Rattle.session.proofs.Tables.{below-take}
-use Rattle.sections.proofs.Fills.{Filled, fill_start, fill_step, fill_end}
-use Rattle.session.specs.Limits.{max_nodes}
+use Rattle.sections.proofs.Fills.{Filled}
 use Rattle.sections.proofs.copy_edges.Given as goal
 
 abbrev pub number : List ℕ → List ℕ → ℕ → ℕ

@@ -1,11 +1,10 @@
-use Prim.Native.Nat.{ℕ, ◌-◌}
-use borrow.Author.Rules.{rules}
+use Prim.Native.Nat.{ℕ}
 use native.Mathlib.Omega.{arith}
 use mathlib.Core.Path.{◌∙◌, ap, refl, sym}
-use lib.ListN.{length, get_or}
+use lib.ListN.{get_or}
 use Rattle.session.specs.Layout.{table}
 use Rattle.session.proofs.Tables.{table_of}
-use Rattle.sections.proofs.Fills.{Filled, fill_start, fill_step, fill_end}
+use Rattle.sections.proofs.Fills.{fill_start, fill_step, fill_end}
 use Rattle.sections.proofs.copy_halves.Goals as goal
 
 pub loop-i-init : goal.loop-i-init
@@ -14,7 +13,7 @@ loop-i-init c =
 
 pub overflow_cast-place : goal.overflow_cast-place
 overflow_cast-place c =
-    omega (arith, c.shared_slice_known-1.given c.loop-i.i)
+    omega (arith, c.type_inv.source c.loop-i.i)
 
 pub loop-i-preserved : goal.loop-i-preserved
 loop-i-preserved c =

@@ -1,12 +1,7 @@
 -- `copy_halves` meets its contract: the places before i hold the words of the source.
-use Prim.Native.Nat.{ℕ, ◌-◌}
-use borrow.Author.Rules.{rules}
-use native.Mathlib.Omega.{arith}
-use mathlib.Core.Path.{◌∙◌, ap, refl, sym}
+use Prim.Native.Nat.{◌-◌}
 use lib.ListN.{length, get_or}
-use Rattle.session.specs.Layout.{table}
-use Rattle.session.proofs.Tables.{table_of}
-use Rattle.sections.proofs.Fills.{Filled, fill_start, fill_step, fill_end}
+use Rattle.sections.proofs.Fills.{Filled}
 use Rattle.sections.proofs.copy_halves.Given as goal
 
 abbrev pub invariant-loop-i : goal.invariant-loop-i

@@ -1,5 +1,4 @@
 -- `fill_edges` meets its contract: the numbers of the edges are stored at the front, and the places after them are cleared.
-use borrow.Author.Rules.{rules}
 use mathlib.Core.Path.{refl, sym}
 use lib.ListN.{length}
 use lib.Seq.{length-take-le}

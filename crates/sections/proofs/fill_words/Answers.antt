@@ -1,5 +1,4 @@
 -- `fill_words` meets its contract: the source is copied to the front, and the places after it are cleared.
-use borrow.Author.Rules.{rules}
 use mathlib.Core.Path.{refl, sym}
 use lib.ListN.{length}
 use lib.Seq.{length-take-le}

@@ -1,12 +1,10 @@
-use Prim.Native.Nat.{ℕ, ◌-◌, ◌/◌, ◌%◌, ◌^◌}
-use borrow.Author.Rules.{rules}
+use Prim.Native.Nat.{ℕ, ◌-◌, ◌/◌, ◌^◌}
 use native.Mathlib.Omega.{arith}
-use mathlib.Core.List.{List}
 use mathlib.Core.Path.{◌∙◌, ap, sym}
 use lib.Bits.{bit_and, and_mask}
-use lib.ListN.{length, get_or}
+use lib.ListN.{get_or}
 use Rattle.session.specs.Layout.{table}
-use Rattle.sections.proofs.Fills.{Filled, fill_start, fill_step, fill_end}
+use Rattle.sections.proofs.Fills.{fill_start, fill_step, fill_end}
 use Rattle.bits.specs.Word.{half_bits}
 use Rattle.sections.proofs.narrow.Invariants.{half}
 use Rattle.sections.proofs.narrow.Goals as goal

@@ -1,13 +1,8 @@
 -- `narrow` meets its contract: the places before i hold halves of the source's words.
 use Prim.Native.Nat.{ℕ, ◌-◌, ◌/◌, ◌%◌, ◌^◌}
-use borrow.Author.Rules.{rules}
-use native.Mathlib.Omega.{arith}
 use mathlib.Core.List.{List}
-use mathlib.Core.Path.{◌∙◌, ap, sym}
-use lib.Bits.{bit_and, and_mask}
 use lib.ListN.{length, get_or}
-use Rattle.session.specs.Layout.{table}
-use Rattle.sections.proofs.Fills.{Filled, fill_start, fill_step, fill_end}
+use Rattle.sections.proofs.Fills.{Filled}
 use Rattle.bits.specs.Word.{half_bits}
 use Rattle.sections.proofs.narrow.Given as goal
 

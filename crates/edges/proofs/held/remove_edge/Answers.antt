@@ -1,5 +1,4 @@
 -- The edges without the old one are written over their section, and their number is lowered.
-use borrow.Author.Rules.{rules}
 use native.Mathlib.Omega.{arith}
 use mathlib.Core.Path.{◌≡◌, sym, ◌∙◌}
 use mathlib.Core.Bool.{true}
