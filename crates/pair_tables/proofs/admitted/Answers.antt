@@ -1,13 +1,13 @@
-use Prim.Native.Nat.{◌*◌, ◌-◌, ◌^◌, ◌≤◌}
+use Prim.Native.Nat.{◌^◌}
 use native.Mathlib.Omega.{arith}
 use borrow.Author.Rules.{rules}
 use mathlib.Core.Path.{◌≡◌}
 use lib.ListN.{length, get_or}
 use Rattle.bits.specs.Word.{members}
-use Rattle.session.specs.Limits.{max_nodes, word_bits}
+use Rattle.session.specs.Limits.{word_bits}
 use Rattle.session.proofs.Tables.{below-take}
 use Rattle.pair_tables.specs.Tables.{Admits}
-use Rattle.pair_tables.proofs.Admitting.{Filled, admits-few, filled-start, filled_more, filled-end}
+use Rattle.pair_tables.proofs.Admitting.{admits-few, filled-start, filled_more, filled-end}
 use Rattle.pair_tables.proofs.admitted.Goals as goal
 use Rattle.pair_tables.proofs.admitted.Goals.{After-admit-count}
 

@@ -1,8 +1,7 @@
-use Prim.Native.Nat.{◌-◌, ◌^◌, ◌<◌, ◌≤◌}
+use Prim.Native.Nat.{◌^◌, ◌<◌}
 use borrow.Author.Rules.{rules}
 use native.Mathlib.Omega.{arith}
 use mathlib.Core.Path.{◌≡◌, ap, fun_ext, ◌∙◌}
-use mathlib.Core.Logic.{⊎_elim}
 use lib.ListN.{length, get_or}
 use Rattle.simulation.specs.Sets.{none, Set}
 use Rattle.bits.specs.Word.{members}
@@ -12,6 +11,7 @@ use Rattle.session.proofs.Tables.{below-take}
 use Rattle.simulation.proofs.Gains.{gained, gained-none, gained-more, gained_pass}
 use Rattle.pair_tables.proofs.Tabling.{agreeing, agreeing_yes, agreeing_no, agreeing-turned}
 use Rattle.pair_tables.proofs.admitted_at.Goals as goal
+use Rattle.pair_tables.proofs.admitted_at.Goals.{then-values-u-eq0, else-values-u-eq0}
 
 pub loop-u-init : goal.loop-u-init
 loop-u-init c =
@@ -24,14 +24,14 @@ loop-u-preserved c =
     let P : Set = agreeing a.masks.now a.values.now a.sample in
     let small : get_or a.masks.now l.u 0 < 2 ^ word_bits = below-take (2 ^ word_bits) a.masks.now c.requires.values_len.2 l.u (search rules) in (
       search rules,
-      ⊎_elim
-          (λ w.
-          ap members w.2
-          ∙ gained-more none P l.u l.invariant.1 (agreeing_yes a.masks.now a.values.now a.sample l.u small w.0.taken) w.1.ensures)
-          (λ w.
-          ap members w.1
-          ∙ gained_pass none P l.u l.invariant.1 (agreeing_no a.masks.now a.values.now a.sample l.u small w.0.left))
-          c.if-values-u-eq0.branch,
+      elim c.if-values-u-eq0.branch [
+        | then-values-u-eq0 w ↦
+            ap members w.all-is
+            ∙ gained-more none P l.u l.invariant.1 (agreeing_yes a.masks.now a.values.now a.sample l.u small w.if-values-u-eq0.true) w.added-all.ensures
+        | else-values-u-eq0 w ↦
+            ap members w.all-is
+            ∙ gained_pass none P l.u l.invariant.1 (agreeing_no a.masks.now a.values.now a.sample l.u small w.if-values-u-eq0.false)
+      ],
     )
 
 pub returns : goal.returns

@@ -1,17 +1,11 @@
 -- `admitted_at` meets its contract: the states below u that agree with the sample were put in; at the end the set is turned round where it is to be.
-use Prim.Native.Nat.{◌-◌, ◌^◌, ◌<◌, ◌≤◌}
-use borrow.Author.Rules.{rules}
-use native.Mathlib.Omega.{arith}
-use mathlib.Core.Path.{◌≡◌, ap, fun_ext, ◌∙◌}
-use mathlib.Core.Logic.{⊎_elim}
-use lib.ListN.{length, get_or}
-use Rattle.simulation.specs.Sets.{none, Set}
+use Prim.Native.Nat.{◌-◌, ◌≤◌}
+use mathlib.Core.Path.{◌≡◌}
+use lib.ListN.{length}
+use Rattle.simulation.specs.Sets.{none}
 use Rattle.bits.specs.Word.{members}
-use Rattle.bits.proofs.Words.{zero-members}
-use Rattle.session.specs.Limits.{word_bits}
-use Rattle.session.proofs.Tables.{below-take}
-use Rattle.simulation.proofs.Gains.{gained, gained-none, gained-more, gained_pass}
-use Rattle.pair_tables.proofs.Tabling.{agreeing, agreeing_yes, agreeing_no, agreeing-turned}
+use Rattle.simulation.proofs.Gains.{gained}
+use Rattle.pair_tables.proofs.Tabling.{agreeing}
 use Rattle.pair_tables.proofs.admitted_at.Given as goal
 
 abbrev pub invariant-loop-u : goal.invariant-loop-u

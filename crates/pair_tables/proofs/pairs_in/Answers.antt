@@ -1,9 +1,7 @@
-use Prim.Native.Nat.{◌-◌, ◌*◌, ◌≤◌}
 use borrow.Author.Rules.{rules}
 use native.Mathlib.Omega.{arith}
-use mathlib.Core.Path.{◌≡◌, ap, ◌∙◌}
+use mathlib.Core.Path.{ap, ◌∙◌}
 use Rattle.pair_tables.proofs.Tabling.{pairs_to, pairs-none, row-few, pairs-more}
-use Rattle.session.specs.Limits.{max_states}
 use Rattle.pair_tables.proofs.pairs_in.Goals as goal
 
 pub loop-v-init : goal.loop-v-init

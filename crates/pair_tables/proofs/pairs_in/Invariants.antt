@@ -1,9 +1,7 @@
 -- `pairs_in` meets its contract: the pairs at the nodes below v are counted.
 use Prim.Native.Nat.{◌-◌, ◌*◌, ◌≤◌}
-use borrow.Author.Rules.{rules}
-use native.Mathlib.Omega.{arith}
-use mathlib.Core.Path.{◌≡◌, ap, ◌∙◌}
-use Rattle.pair_tables.proofs.Tabling.{pairs_to, pairs-none, row-few, pairs-more}
+use mathlib.Core.Path.{◌≡◌}
+use Rattle.pair_tables.proofs.Tabling.{pairs_to}
 use Rattle.session.specs.Limits.{max_states}
 use Rattle.pair_tables.proofs.pairs_in.Given as goal
 

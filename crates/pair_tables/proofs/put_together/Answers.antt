@@ -1,9 +1,7 @@
-use Prim.Native.Nat.{◌-◌}
 use borrow.Author.Rules.{rules}
 use mathlib.Core.Path.{refl}
 use mathlib.Core.Bool.{◌||◌}
-use lib.ListN.{length}
-use Rattle.pair_tables.proofs.Tabling.{Changed, changed-start, changed-step, changed-end}
+use Rattle.pair_tables.proofs.Tabling.{changed-start, changed-step, changed-end}
 use Rattle.pair_tables.proofs.put_together.Goals as goal
 
 pub loop-v-init : goal.loop-v-init

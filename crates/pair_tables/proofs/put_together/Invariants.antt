@@ -1,10 +1,8 @@
 -- `put_together` meets its contract: the words below v are changed.
 use Prim.Native.Nat.{◌-◌}
-use borrow.Author.Rules.{rules}
-use mathlib.Core.Path.{refl}
 use mathlib.Core.Bool.{◌||◌}
 use lib.ListN.{length}
-use Rattle.pair_tables.proofs.Tabling.{Changed, changed-start, changed-step, changed-end}
+use Rattle.pair_tables.proofs.Tabling.{Changed}
 use Rattle.pair_tables.proofs.put_together.Given as goal
 
 abbrev pub invariant-loop-v : goal.invariant-loop-v

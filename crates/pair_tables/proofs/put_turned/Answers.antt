@@ -1,4 +1,4 @@
-use Prim.Native.Nat.{◌-◌, ◌^◌, ◌≤◌}
+use Prim.Native.Nat.{ℕ, ◌≤◌}
 use native.Mathlib.Omega.{arith}
 use borrow.Author.Rules.{rules}
 use mathlib.Core.Path.{◌≡◌, refl, ◌∙◌}
@@ -8,23 +8,22 @@ use lib.Dec.{eqb}
 use lib.ListN.{length, get_or, length-set}
 use Rattle.session.specs.Limits.{word_bits}
 use Rattle.session.proofs.Admission.{matches-masked}
-use Rattle.pair_tables.proofs.Admitting.{Seen, seen_start, seen_step, seen_end, picked_le}
-use Rattle.bits.specs.Word.{set_bits}
+use Rattle.pair_tables.proofs.Admitting.{seen_start, seen_step, seen_end, picked_le}
 use Rattle.pair_tables.proofs.put_turned.Goals as goal
-use Rattle.pair_tables.proofs.put_turned.Goals.{After-chosen-count, At-loop-v}
+use Rattle.pair_tables.proofs.put_turned.Goals.{After-chosen-count}
 
--- the test of the node v, turned round or not
-abbrev hit : At-loop-v → Bool → Bool
-hit c b =
-    let a = c.args in
-    let agree = eqb (bit_and (bit_xor a.value (get_or a.samples.now c.loop-v.v 0)) a.mask) 0 in
+-- the test of a sample, turned round or not
+abbrev hit : ℕ → ℕ → ℕ → Bool → Bool
+hit mask value sample b =
+    let agree = eqb (bit_and (bit_xor value sample) mask) 0 in
     cond b (not agree) agree
 
 -- one more, where the test holds
 few : (c : After-chosen-count) → c.chosen-count.result ≤ 1
 few c =
     let turn = c.requires.turn_value in
-    picked_le (hit «At-loop-v» turn.0) c.chosen-count.result 1 (c.chosen-count.ensures turn.0 turn.1)
+    let a = c.args in
+    picked_le (hit a.mask a.value (get_or a.samples.now c.loop-v.v 0) turn.0) c.chosen-count.result 1 (c.chosen-count.ensures turn.0 turn.1)
 
 pub loop-v-init : goal.loop-v-init
 loop-v-init c =
@@ -46,7 +45,7 @@ loop-v-preserved c =
       length-set c.loop-v.table c.loop-v.v _ ∙ c.loop-v.invariant.2,
       λ b e.
           seen_step a.samples.now b a.mask a.value a.u a.table.now (c.loop-v.invariant.3 b e) c.only-bit.result p.result q.result
-          (hit (goal.at.loop-v-preserved c).At-loop-v b) (search rules) (matches-masked word_bits b a.mask a.value sample c.requires.mask_bound.0) c.only-bit.ensures (p.ensures b e)
+          (hit a.mask a.value sample b) (search rules) (matches-masked word_bits b a.mask a.value sample c.requires.mask_bound.0) c.only-bit.ensures (p.ensures b e)
           (q.ensures b e),
     )
 

@@ -1,15 +1,9 @@
 -- `put_turned` meets its contract: after v nodes these have the state where they admit it, and are counted.
 use Prim.Native.Nat.{◌-◌, ◌^◌, ◌≤◌}
-use native.Mathlib.Omega.{arith}
-use borrow.Author.Rules.{rules}
-use mathlib.Core.Path.{◌≡◌, refl, ◌∙◌}
-use mathlib.Core.Bool.{Bool, not, cond}
-use lib.Bits.{bit_and, bit_xor}
-use lib.Dec.{eqb}
-use lib.ListN.{length, get_or, length-set}
-use Rattle.session.specs.Limits.{word_bits}
-use Rattle.session.proofs.Admission.{matches-masked}
-use Rattle.pair_tables.proofs.Admitting.{Seen, seen_start, seen_step, seen_end, picked_le}
+use mathlib.Core.Path.{◌≡◌}
+use mathlib.Core.Bool.{Bool, cond}
+use lib.ListN.{length}
+use Rattle.pair_tables.proofs.Admitting.{Seen}
 use Rattle.bits.specs.Word.{set_bits}
 use Rattle.pair_tables.proofs.put_turned.Given as goal
 

@@ -1,10 +1,8 @@
 -- `take_away` meets its contract: the words below v are changed.
 use Prim.Native.Nat.{◌-◌}
-use borrow.Author.Rules.{rules}
-use mathlib.Core.Path.{refl}
 use mathlib.Core.Bool.{not, ◌&&◌}
 use lib.ListN.{length}
-use Rattle.pair_tables.proofs.Tabling.{Changed, changed-start, changed-step, changed-end}
+use Rattle.pair_tables.proofs.Tabling.{Changed}
 use Rattle.pair_tables.proofs.take_away.Given as goal
 
 abbrev pub invariant-loop-v : goal.invariant-loop-v

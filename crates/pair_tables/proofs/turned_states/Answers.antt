@@ -1,17 +1,16 @@
-use Prim.Native.Nat.{◌-◌, ◌≤◌}
 use borrow.Author.Rules.{rules}
 use borrow.Author.Tests.{eq-eqb, ne_eqb}
 use native.Mathlib.Omega.{arith}
-use mathlib.Core.Path.{◌≡◌, ap, fun_ext, ◌∙◌}
+use mathlib.Core.Path.{ap, fun_ext, ◌∙◌}
 use mathlib.Core.Bool.{not}
-use mathlib.Core.Logic.{⊎_elim}
-use lib.ListN.{length, get_or}
+use lib.ListN.{get_or}
 use Rattle.simulation.specs.Sets.{none}
 use Rattle.bits.specs.Word.{members}
 use Rattle.bits.proofs.Words.{zero-members}
-use Rattle.simulation.proofs.Gains.{gained, gained-none, gained-more, gained_pass}
+use Rattle.simulation.proofs.Gains.{gained-none, gained-more, gained_pass}
 use Rattle.pair_tables.proofs.Tabling.{wanting, turned_are, turned_none}
 use Rattle.pair_tables.proofs.turned_states.Goals as goal
+use Rattle.pair_tables.proofs.turned_states.Goals.{then-masks-u-ne0, else-masks-u-ne0}
 
 pub returns-then-inverted-eq0 : goal.returns-then-inverted-eq0
 returns-then-inverted-eq0 c =
@@ -27,10 +26,14 @@ loop-u-preserved c =
     let l = c.loop-u in
     let mask = get_or masks l.u 0 in (
       search rules,
-      ⊎_elim
-          (λ w. ap members w.2 ∙ gained-more none (wanting masks) l.u l.invariant.1 (ap not (ne_eqb mask 0 w.0.taken)) w.1.ensures)
-          (λ w. ap members w.1 ∙ gained_pass none (wanting masks) l.u l.invariant.1 (ap not (eq-eqb mask 0 w.0.left)))
-          c.if-masks-u-ne0.branch,
+      elim c.if-masks-u-ne0.branch [
+        | then-masks-u-ne0 w ↦
+            ap members w.wanting-is
+            ∙ gained-more none (wanting masks) l.u l.invariant.1 (ap not (ne_eqb mask 0 w.if-masks-u-ne0.true)) w.added-wanting.ensures
+        | else-masks-u-ne0 w ↦
+            ap members w.wanting-is
+            ∙ gained_pass none (wanting masks) l.u l.invariant.1 (ap not (eq-eqb mask 0 w.if-masks-u-ne0.false))
+      ],
     )
 
 pub returns : goal.returns
