@@ -1,7 +1,6 @@
 -- The edges of a node, and the two indexes by which they are found: of those that end at it, and of those that start there.
 use Rattle.std.specs.Prelude.{ℕ, zero, suc, ◌+◌, ◌-◌, ◌/◌, ◌%◌, ◌<◌, ◌≡◌, ◌&&◌, cond, List, eqb, length, get_or, take, drop}
 use Rattle.simulation.specs.Sets.{Set, any_below}
-use Rattle.simulation.specs.Search.{first}
 use Rattle.simulation.specs.Ordered.{from}
 use Rattle.session.specs.Limits.{max_nodes, max_edges}
 

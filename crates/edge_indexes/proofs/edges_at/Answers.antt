@@ -3,7 +3,6 @@ use Prim.Native.Nat.{◌+◌}
 use Rattle.edge_indexes.proofs.Ranges.{range_from}
 use Rattle.edge_indexes.specs.Indexes.{Started}
 use Rattle.simulation.proofs.Edges.{from_le, from_mono}
-use borrow.Author.Rules.{rules}
 use lib.ListN.{get_or}
 use native.Mathlib.Omega.{arith}
 use Rattle.session.specs.Limits.{max_nodes}
@@ -20,7 +19,7 @@ bounds-firsts-v c =
 
 pub overflow_cast-low : goal.overflow_cast-low
 overflow_cast-low c =
-    omega (arith, c.shared_slice_known-3-1.given c.args.v)
+    omega (arith, c.type_inv.firsts c.args.v)
 
 pub bounds-firsts-v-2 : goal.bounds-firsts-v-2
 bounds-firsts-v-2 c =
@@ -28,7 +27,7 @@ bounds-firsts-v-2 c =
 
 pub overflow_cast-high : goal.overflow_cast-high
 overflow_cast-high c =
-    omega (arith, c.shared_slice_known-4-1.given (c.args.v + 1))
+    omega (arith, c.type_inv.firsts (c.args.v + 1))
 
 pub offset_bounds-edges-low : goal.offset_bounds-edges-low
 offset_bounds-edges-low c =

@@ -2,7 +2,6 @@
 use Prim.Native.Nat.{◌+◌}
 use Rattle.edge_indexes.proofs.Ranges.{range_from}
 use Rattle.simulation.proofs.Edges.{from_le, from_mono}
-use borrow.Author.Rules.{rules}
 use native.Mathlib.Omega.{arith}
 use Rattle.session.specs.Limits.{max_nodes}
 use Rattle.edge_indexes.proofs.edges_from.Goals as goal

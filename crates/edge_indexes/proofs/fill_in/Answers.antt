@@ -1,11 +1,10 @@
-use Prim.Native.Nat.{◌-◌, ◌<◌}
-use Rattle.edge_indexes.proofs.Firsts.{Filling, filling_none, filled-before, filled-noted, filling_next}
-use borrow.Author.Rules.{rules}
-use mathlib.Core.Logic.{⊎_elim}
+use Prim.Native.Nat.{◌<◌}
+use Rattle.edge_indexes.proofs.Firsts.{filling_none, filled-before, filled-noted, filling_next}
 use mathlib.Core.Path.{◌∙◌}
 use native.Mathlib.Omega.{arith}
 use Rattle.edge_indexes.specs.Indexes.{starts_size}
 use Rattle.edge_indexes.proofs.fill_in.Goals as goal
+use Rattle.edge_indexes.proofs.fill_in.Goals.{then-noted-ne0, else-noted-ne0}
 
 pub loop-v-init : goal.loop-v-init
 loop-v-init c =
@@ -16,10 +15,10 @@ loop-v-preserved c =
     let x = c.loop-v.invariant in
     let inside : c.loop-v.v < starts_size = omega (arith, c.loop-v-test.true) in
     filling_next x inside c.if-noted-ne0.place
-    (⊎_elim
-    (λ w. w.1 ∙ filled-noted x inside w.0.taken)
-    (λ w. w.1 ∙ filled-before x inside w.0.left)
-    c.if-noted-ne0.branch)
+    (elim c.if-noted-ne0.branch [
+      | then-noted-ne0 w ↦ w.place-is ∙ filled-noted x inside w.if-noted-ne0.true
+      | else-noted-ne0 w ↦ w.place-is ∙ filled-before x inside w.if-noted-ne0.false
+    ])
 
 pub returns : goal.returns
 returns c =

@@ -1,10 +1,6 @@
 -- `fill_in` meets its contract: the places before v are filled in, the others as they were.
-use Prim.Native.Nat.{◌-◌, ◌<◌}
-use Rattle.edge_indexes.proofs.Firsts.{Filling, filling_none, filled-before, filled-noted, filling_next}
-use borrow.Author.Rules.{rules}
-use mathlib.Core.Logic.{⊎_elim}
-use mathlib.Core.Path.{◌∙◌}
-use native.Mathlib.Omega.{arith}
+use Prim.Native.Nat.{◌-◌}
+use Rattle.edge_indexes.proofs.Firsts.{Filling}
 use Rattle.edge_indexes.specs.Indexes.{starts_size}
 use Rattle.edge_indexes.proofs.fill_in.Given as goal
 

@@ -1,8 +1,5 @@
-use Prim.Native.Nat.{◌-◌}
-use borrow.Author.Rules.{rules}
 use native.Mathlib.Omega.{arith}
-use lib.ListN.{length}
-use Rattle.edge_indexes.proofs.Incoming.{Indexing, indexing_none, indexing_more, indexing_done}
+use Rattle.edge_indexes.proofs.Incoming.{indexing_none, indexing_more, indexing_done}
 use Rattle.edge_indexes.proofs.index.Goals as goal
 
 pub loop-k-init : goal.loop-k-init

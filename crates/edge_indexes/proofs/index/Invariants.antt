@@ -1,9 +1,7 @@
 -- `index` meets its contract: before edge k the tables are the index of the edges before it.
 use Prim.Native.Nat.{◌-◌}
-use borrow.Author.Rules.{rules}
-use native.Mathlib.Omega.{arith}
 use lib.ListN.{length}
-use Rattle.edge_indexes.proofs.Incoming.{Indexing, indexing_none, indexing_more, indexing_done}
+use Rattle.edge_indexes.proofs.Incoming.{Indexing}
 use Rattle.edge_indexes.proofs.index.Given as goal
 
 abbrev pub invariant-loop-k : goal.invariant-loop-k

@@ -1,5 +1,4 @@
 -- `index_starts` meets its contract: the ends that are noted and filled in are where the next node's edges begin.
-use borrow.Author.Rules.{rules}
 use Rattle.edge_indexes.proofs.Firsts.{started}
 use Rattle.edge_indexes.proofs.index_starts.Goals as goal
 

@@ -1,9 +1,8 @@
-use Prim.Native.Nat.{◌-◌, ◌<◌}
-use borrow.Author.Rules.{rules}
+use Prim.Native.Nat.{◌<◌}
 use native.Mathlib.Omega.{arith}
-use lib.ListN.{length, get_or}
+use lib.ListN.{get_or}
 use Rattle.session.proofs.Tables.{below-take}
-use Rattle.edge_indexes.proofs.Firsts.{Noting, noting_none, noting_more, noting_done}
+use Rattle.edge_indexes.proofs.Firsts.{noting_none, noting_more, noting_done}
 use Rattle.session.specs.Limits.{edge_numbers}
 use Rattle.edge_indexes.proofs.note_ends.Goals as goal
 use Rattle.edge_indexes.proofs.note_ends.Goals.{In-loop-k}

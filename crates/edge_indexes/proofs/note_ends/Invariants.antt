@@ -1,11 +1,7 @@
 -- `note_ends` meets its contract: before edge k the ends of the edges before it are noted.
-use Prim.Native.Nat.{◌-◌, ◌<◌}
-use borrow.Author.Rules.{rules}
-use native.Mathlib.Omega.{arith}
-use lib.ListN.{length, get_or}
-use Rattle.session.proofs.Tables.{below-take}
-use Rattle.edge_indexes.proofs.Firsts.{Noting, noting_none, noting_more, noting_done}
-use Rattle.session.specs.Limits.{edge_numbers}
+use Prim.Native.Nat.{◌-◌}
+use lib.ListN.{length}
+use Rattle.edge_indexes.proofs.Firsts.{Noting}
 use Rattle.edge_indexes.proofs.note_ends.Given as goal
 
 abbrev pub invariant-loop-k : goal.invariant-loop-k

@@ -1,8 +1,7 @@
 use Rattle.bits.specs.Word.{members, set_bits}
-use Rattle.links.proofs.CallerTables.{Calling, calling_start, calling_next, calling_end}
+use Rattle.links.proofs.CallerTables.{calling_start, calling_next, calling_end}
 use Rattle.simulation.proofs.Loops.{without_falls}
-use Rattle.simulation.specs.Sets.{count, without}
-use borrow.Author.Rules.{rules}
+use Rattle.simulation.specs.Sets.{without}
 use mathlib.Core.Path.{◌≡◌}
 use native.Mathlib.Omega.{arith}
 use Rattle.links.proofs.call_for.Goals as goal

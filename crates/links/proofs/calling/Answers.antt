@@ -4,7 +4,6 @@ use native.Mathlib.Omega.{arith}
 use mathlib.Core.Path.{◌∙◌}
 use Rattle.bits.specs.Word.{set_bits}
 use Rattle.links.proofs.CallerTables.{callers_linked}
-use borrow.Author.Rules.{rules}
 use Rattle.links.proofs.calling.Goals as goal
 
 pub linked-requires : goal.linked-requires

@@ -1,8 +1,5 @@
-use Prim.Native.Nat.{◌-◌}
 use Rattle.bits.specs.Word.{set_bits}
-use Rattle.links.proofs.CallerTables.{Called, called-start, called_more, called-end}
-use borrow.Author.Rules.{rules}
-use lib.ListN.{length}
+use Rattle.links.proofs.CallerTables.{called-start, called_more, called-end}
 use native.Mathlib.Omega.{arith}
 use Rattle.links.proofs.index_callers.Goals as goal
 
@@ -13,7 +10,7 @@ loop-u-init c =
 pub loop-u-preserved : goal.loop-u-preserved
 loop-u-preserved c =
     let call = c.call_for in
-    called_more set_bits c.args.links.now c.loop-u.invariant (omega arith) call.auto.0 call.ensures
+    called_more set_bits c.args.links.now c.loop-u.invariant (omega arith) call.auto.callers call.ensures
 
 pub returns : goal.returns
 returns c =

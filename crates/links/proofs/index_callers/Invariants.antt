@@ -1,10 +1,8 @@
 -- `index_callers` meets its contract: before state u the states below it are in the words of their targets.
 use Prim.Native.Nat.{◌-◌}
 use Rattle.bits.specs.Word.{set_bits}
-use Rattle.links.proofs.CallerTables.{Called, called-start, called_more, called-end}
-use borrow.Author.Rules.{rules}
+use Rattle.links.proofs.CallerTables.{Called}
 use lib.ListN.{length}
-use native.Mathlib.Omega.{arith}
 use Rattle.links.proofs.index_callers.Given as goal
 
 abbrev pub invariant-loop-u : goal.invariant-loop-u

@@ -1,9 +1,8 @@
 use Rattle.bits.proofs.Words.{and-members}
 use Rattle.bits.specs.Word.{members, set_bits}
-use Rattle.links.proofs.LinkSets.{Linking, linking-start, linking-next, linking-done}
+use Rattle.links.proofs.LinkSets.{linking-start, linking-next, linking-done}
 use Rattle.simulation.proofs.Loops.{without_falls}
-use Rattle.simulation.specs.Sets.{Set, count, without}
-use borrow.Author.Rules.{rules}
+use Rattle.simulation.specs.Sets.{Set, without}
 use mathlib.Core.Bool.{◌&&◌}
 use mathlib.Core.Path.{◌≡◌, ap, ◌∙◌}
 use Rattle.links.proofs.linked.Goals as goal

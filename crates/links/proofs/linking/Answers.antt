@@ -1,12 +1,10 @@
-use Prim.Native.Nat.{◌-◌, ◌≤◌}
 use Rattle.bits.specs.Word.{members, set_bits}
 use Rattle.links.proofs.LinkSets.{linked_to, linked-none, linked-more, linked_pass}
 use borrow.Author.Rules.{rules}
-use lib.ListN.{length}
-use mathlib.Core.Logic.{⊎_elim}
-use mathlib.Core.Path.{◌≡◌, sym, ap, ◌∙◌}
+use mathlib.Core.Path.{sym, ap, ◌∙◌}
 use native.Mathlib.Omega.{arith}
 use Rattle.links.proofs.linking.Goals as goal
+use Rattle.links.proofs.linking.Goals.{then-meet, else-meet}
 
 pub loop-u-init : goal.loop-u-init
 loop-u-init c =
@@ -17,10 +15,13 @@ loop-u-preserved c =
     let a = c.args in
     let meet = c.meet in (
       search rules,
-      ⊎_elim
-          (λ w. ap members w.2 ∙ linked-more set_bits a.links.now a.word c.loop-u.u c.loop-u.all c.loop-u.invariant.1 w.1.result (sym meet.ensures ∙ w.0.taken) w.1.ensures)
-          (λ w. ap members w.1 ∙ linked_pass set_bits a.links.now a.word c.loop-u.u c.loop-u.all c.loop-u.invariant.1 (sym meet.ensures ∙ w.0.left))
-          c.if-meet.branch,
+      elim c.if-meet.branch [
+        | then-meet w ↦
+            ap members w.all-is
+            ∙ linked-more set_bits a.links.now a.word c.loop-u.u c.loop-u.all c.loop-u.invariant.1 w.added-all.result (sym meet.ensures ∙ w.if-meet.true) w.added-all.ensures
+        | else-meet w ↦
+            ap members w.all-is ∙ linked_pass set_bits a.links.now a.word c.loop-u.u c.loop-u.all c.loop-u.invariant.1 (sym meet.ensures ∙ w.if-meet.false)
+      ],
     )
 
 pub returns : goal.returns

@@ -1,12 +1,9 @@
 -- `linking` meets its contract: before state u the states below it are those with a link to a state of the word.
 use Prim.Native.Nat.{◌-◌, ◌≤◌}
 use Rattle.bits.specs.Word.{members, set_bits}
-use Rattle.links.proofs.LinkSets.{linked_to, linked-none, linked-more, linked_pass}
-use borrow.Author.Rules.{rules}
+use Rattle.links.proofs.LinkSets.{linked_to}
 use lib.ListN.{length}
-use mathlib.Core.Logic.{⊎_elim}
-use mathlib.Core.Path.{◌≡◌, sym, ap, ◌∙◌}
-use native.Mathlib.Omega.{arith}
+use mathlib.Core.Path.{◌≡◌}
 use Rattle.links.proofs.linking.Given as goal
 
 abbrev pub invariant-loop-u : goal.invariant-loop-u

@@ -1,8 +1,7 @@
-use borrow.Author.Rules.{rules}
 use mathlib.Core.Path.{◌≡◌}
-use Rattle.simulation.specs.Sets.{union, without, count}
-use Rattle.bits.specs.Word.{members, set_bits}
-use Rattle.links.proofs.Reaching.{Reaching, reaching_start, reaching_next, reaching_less, reaching_done}
+use Rattle.simulation.specs.Sets.{without}
+use Rattle.bits.specs.Word.{members}
+use Rattle.links.proofs.Reaching.{reaching_start, reaching_next, reaching_less, reaching_done}
 use Rattle.links.proofs.reached.Goals as goal
 use Rattle.links.proofs.reached.Goals.{After-without_lowest}
 

@@ -1,9 +1,7 @@
 -- `reached` meets its contract: what was met and followed is reached, and in the end nothing waits.
-use borrow.Author.Rules.{rules}
-use mathlib.Core.Path.{◌≡◌}
-use Rattle.simulation.specs.Sets.{union, without, count}
+use Rattle.simulation.specs.Sets.{union, count}
 use Rattle.bits.specs.Word.{members, set_bits}
-use Rattle.links.proofs.Reaching.{Reaching, reaching_start, reaching_next, reaching_less, reaching_done}
+use Rattle.links.proofs.Reaching.{Reaching}
 use Rattle.links.proofs.reached.Given as goal
 
 abbrev pub invariant-loop-rest : goal.invariant-loop-rest

@@ -1,14 +1,12 @@
-use borrow.Author.Rules.{rules}
-use mathlib.Core.Logic.{⊎_elim}
 use mathlib.Core.Bool.{◌&&◌}
-use mathlib.Core.Path.{◌≡◌, sym, ap, subst, ◌∙◌}
-use Rattle.simulation.specs.Sets.{Set, count, without}
+use mathlib.Core.Path.{◌≡◌, sym, ap, ◌∙◌}
+use Rattle.simulation.specs.Sets.{Set, without}
 use Rattle.simulation.proofs.Loops.{without_falls}
 use Rattle.bits.specs.Word.{members, set_bits}
 use Rattle.bits.proofs.Words.{and-members}
-use Rattle.links.proofs.LinkSets.{Thinned, thinned_start, thinned_out, thinned_pass, thinned_done}
+use Rattle.links.proofs.LinkSets.{thinned_start, thinned_out, thinned_pass, thinned_done}
 use Rattle.links.proofs.unlinked.Goals as goal
-use Rattle.links.proofs.unlinked.Goals.{After-without_lowest-rest}
+use Rattle.links.proofs.unlinked.Goals.{After-without_lowest-rest, then-meet, else-meet}
 
 -- the lowest state of the rest is taken out
 gone : (c : After-without_lowest-rest) → members c.without_lowest-rest.result ≡ without (members c.loop-rest.rest) c.lowest-u.result
@@ -33,14 +31,16 @@ loop-rest-preserved c =
     let a = c.args in
     let low = c.lowest-u in
     let met = c.meet in
-    ⊎_elim
-    (λ w. subst (λ (x : _). Thinned set_bits a.links.now a.word a.others x c.without_lowest-rest.result) (sym w.2)
-    (thinned_out set_bits a.links.now a.word a.others c.loop-rest.left c.loop-rest.rest c.loop-rest.invariant low.result c.without_lowest-rest.result low.ensures.1 (gone c)
-    (sym met.ensures ∙ w.0.taken) w.1.result w.1.ensures))
-    (λ w. subst (λ (x : _). Thinned set_bits a.links.now a.word a.others x c.without_lowest-rest.result) (sym w.1)
-    (thinned_pass set_bits a.links.now a.word a.others c.loop-rest.left c.loop-rest.rest c.loop-rest.invariant low.result c.without_lowest-rest.result low.ensures.1 (gone c)
-    (sym met.ensures ∙ w.0.left)))
-    c.if-meet.branch
+    elim c.if-meet.branch [
+      | then-meet w ↦
+          rw w.left-is
+          (thinned_out set_bits a.links.now a.word a.others c.loop-rest.left c.loop-rest.rest c.loop-rest.invariant low.result c.without_lowest-rest.result low.ensures.1 (gone c)
+          (sym met.ensures ∙ w.if-meet.true) w.removed-left.result w.removed-left.ensures)
+      | else-meet w ↦
+          rw w.left-is
+          (thinned_pass set_bits a.links.now a.word a.others c.loop-rest.left c.loop-rest.rest c.loop-rest.invariant low.result c.without_lowest-rest.result low.ensures.1 (gone c)
+          (sym met.ensures ∙ w.if-meet.false))
+    ]
 
 pub returns : goal.returns
 returns c =

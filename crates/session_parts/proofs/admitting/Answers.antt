@@ -1,5 +1,4 @@
 -- The states that admit a node by the parts of the session.
-use borrow.Author.Rules.{rules}
 use Rattle.session.proofs.Decoded.{layout-facts}
 use Rattle.session.specs.Layout.{trigger_of}
 use Rattle.pair_tables.proofs.Tabling.{turned-below}
@@ -15,7 +14,7 @@ admitted_at-requires c =
     let t = trigger_of c.args.session.now in
     let f = (layout-facts c.args.session.now c.requires.0).trigger in
     rw (c.masks_of.ensures, c.values_of.ensures)
-    ((f.values, f.few, f.masks_fit), turned-below t.masks t.inverted c.args.turned c.requires.1)
+    record { values_len = (f.values, f.few, f.masks_fit); by_index = turned-below t.masks t.inverted c.args.turned c.requires.1 }
 
 pub returns : goal.returns
 returns c =

@@ -1,5 +1,4 @@
 -- The mark section.
-use borrow.Author.Rules.{rules}
 use native.Mathlib.Omega.{arith}
 use Rattle.session.proofs.Decoded.{layout_limits}
 use Rattle.session_parts.proofs.marks_of.Goals as goal

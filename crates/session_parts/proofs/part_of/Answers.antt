@@ -1,6 +1,5 @@
 -- The part from a place on.
 use Rattle.session.proofs.Tables.{part-from}
-use borrow.Author.Rules.{rules}
 use Rattle.session_parts.proofs.part_of.Goals as goal
 
 pub returns : goal.returns

@@ -1,5 +1,4 @@
 -- The table is copied to the mark section: its words are the mark words of the table's marks.
-use borrow.Author.Rules.{rules}
 use native.Mathlib.Omega.{arith}
 use lib.ListN.{drop}
 use Rattle.session.specs.Limits.{fixed_size}

@@ -1,5 +1,4 @@
 -- The states turned round by the masks and the inverted states of the session.
-use borrow.Author.Rules.{rules}
 use native.Mathlib.Omega.{arith}
 use Rattle.session.proofs.Decoded.{layout-facts}
 use Rattle.session_parts.proofs.turned_of.Goals as goal
