@@ -1,9 +1,9 @@
-use Prim.Native.Nat.{ℕ, ◌+◌, ◌-◌, ◌*◌, ◌≤◌}
+use Prim.Native.Nat.{ℕ, ◌+◌, ◌-◌, ◌*◌}
 use borrow.Author.Rules.{rules}
 use native.Mathlib.Omega.{arith}
 use mathlib.Core.Path.{◌≡◌, ap, ◌∙◌}
-use lib.ListN.{length, length-set}
-use Rattle.worklist.specs.Waiting.{waits, waiting_words}
+use lib.ListN.{length-set}
+use Rattle.worklist.specs.Waiting.{waiting_words}
 use Rattle.worklist.proofs.Occupied.{called, called-none, called-step, called-all}
 use Rattle.bits.specs.Word.{set_bits}
 use Rattle.worklist.proofs.call_all.Goals as goal

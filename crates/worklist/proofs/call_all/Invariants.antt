@@ -1,12 +1,9 @@
 -- `call_all` meets its contract: the words below i gained the nodes of their parts.
-use Prim.Native.Nat.{ℕ, ◌+◌, ◌-◌, ◌*◌, ◌≤◌}
-use borrow.Author.Rules.{rules}
-use native.Mathlib.Omega.{arith}
-use mathlib.Core.Path.{◌≡◌, ap, ◌∙◌}
-use lib.ListN.{length, length-set}
+use Prim.Native.Nat.{ℕ, ◌-◌, ◌≤◌}
+use mathlib.Core.Path.{◌≡◌}
+use lib.ListN.{length}
 use Rattle.worklist.specs.Waiting.{waits, waiting_words}
-use Rattle.worklist.proofs.Occupied.{called, called-none, called-step, called-all}
-use Rattle.bits.specs.Word.{set_bits}
+use Rattle.worklist.proofs.Occupied.{called}
 use Rattle.worklist.proofs.call_all.Given as goal
 
 abbrev pub invariant-loop-i : goal.invariant-loop-i

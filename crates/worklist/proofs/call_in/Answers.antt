@@ -1,5 +1,4 @@
 -- The index is one where it is not empty.
-use borrow.Author.Rules.{rules}
 use Rattle.worklist.proofs.call_in.Goals as goal
 
 pub call_in_by_index-requires : goal.call_in_by_index-requires

@@ -1,13 +1,13 @@
-use Prim.Native.Nat.{ℕ, ◌-◌, ◌≤◌}
+use Prim.Native.Nat.{ℕ}
 use Rattle.bits.specs.Word.{overlaps}
 use Rattle.worklist.proofs.CalledIn.{leads_to, leads-none, leads-more, leads-all}
-use Rattle.worklist.specs.Waiting.{waits, waiting_words}
+use Rattle.worklist.specs.Waiting.{waits}
 use Rattle.session.proofs.Tables.{below-take}
 use Rattle.simulation.specs.Sets.{Set}
 use borrow.Author.Rules.{rules}
-use lib.ListN.{length, get_or}
+use lib.ListN.{get_or}
 use mathlib.Core.Bool.{Bool, ◌&&◌, ◌||◌}
-use mathlib.Core.Path.{◌≡◌, ap, fun_ext, ◌∙◌}
+use mathlib.Core.Path.{ap, fun_ext, ◌∙◌}
 use native.Mathlib.Omega.{arith}
 use Rattle.session.specs.Limits.{edge_numbers}
 use Rattle.worklist.proofs.call_in_by_edges.Goals as goal

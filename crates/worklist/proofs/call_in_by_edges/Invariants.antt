@@ -1,16 +1,11 @@
 -- `call_in_by_edges` meets its contract: the predecessors by the first k edges have been called in.
-use Prim.Native.Nat.{ℕ, ◌-◌, ◌≤◌}
+use Prim.Native.Nat.{◌-◌, ◌≤◌}
 use Rattle.bits.specs.Word.{overlaps}
-use Rattle.worklist.proofs.CalledIn.{leads_to, leads-none, leads-more, leads-all}
+use Rattle.worklist.proofs.CalledIn.{leads_to}
 use Rattle.worklist.specs.Waiting.{waits, waiting_words}
-use Rattle.session.proofs.Tables.{below-take}
-use Rattle.simulation.specs.Sets.{Set}
-use borrow.Author.Rules.{rules}
 use lib.ListN.{length, get_or}
-use mathlib.Core.Bool.{Bool, ◌&&◌, ◌||◌}
-use mathlib.Core.Path.{◌≡◌, ap, fun_ext, ◌∙◌}
-use native.Mathlib.Omega.{arith}
-use Rattle.session.specs.Limits.{edge_numbers}
+use mathlib.Core.Bool.{◌&&◌, ◌||◌}
+use mathlib.Core.Path.{◌≡◌}
 use Rattle.worklist.proofs.call_in_by_edges.Given as goal
 
 abbrev pub invariant-loop-k : goal.invariant-loop-k

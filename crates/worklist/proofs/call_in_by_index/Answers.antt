@@ -1,22 +1,20 @@
-use Prim.Native.Nat.{ℕ, ◌-◌}
+use Prim.Native.Nat.{◌-◌}
 use Rattle.bits.specs.Word.{overlaps}
-use Rattle.worklist.proofs.CalledIn.{Calling, calling_none, calling_more, calling_pass, calling_done}
+use Rattle.worklist.proofs.CalledIn.{calling_none, calling_more, calling_pass, calling_done}
 use Rattle.edge_indexes.proofs.Incoming.{chained_less}
 use Rattle.session.proofs.Tables.{below-take}
 use Rattle.simulation.specs.Sets.{Set}
 use borrow.Author.Rules.{rules}
-use lib.ListN.{length, get_or}
-use mathlib.Core.List.{List}
-use mathlib.Core.Logic.{⊎_elim}
-use mathlib.Core.Path.{◌≡◌, sym, ap, subst, ◌∙◌}
+use lib.ListN.{get_or}
+use mathlib.Core.Path.{sym, ◌∙◌}
 use native.Mathlib.Omega.{arith}
 use Rattle.session.specs.Limits.{edge_numbers}
-use Rattle.worklist.specs.Waiting.{waiting_words}
 use Rattle.worklist.proofs.call_in_by_index.Goals as goal
+use Rattle.worklist.proofs.call_in_by_index.Goals.{then-meet, else-meet}
 
 pub overflow_cast-next : goal.overflow_cast-next
 overflow_cast-next c =
-    omega (arith, c.shared_slice_known-5-1.given c.args.node)
+    omega (arith, c.type_inv.heads c.args.node)
 
 pub loop-next-init : goal.loop-next-init
 loop-next-init c =
@@ -24,7 +22,7 @@ loop-next-init c =
 
 pub overflow_cast-start : goal.overflow_cast-start
 overflow_cast-start c =
-    omega (arith, c.shared_slice_known-in-loop-next-1.given (c.loop-next.next - 1))
+    omega (arith, c.type_inv.edges (c.loop-next.next - 1))
 
 pub offset_bounds-table-start : goal.offset_bounds-table-start
 offset_bounds-table-start c =
@@ -40,7 +38,7 @@ put_in-requires c =
 
 pub overflow_cast-next-in-loop-next : goal.overflow_cast-next-in-loop-next
 overflow_cast-next-in-loop-next c =
-    omega (arith, c.shared_slice_known-in-loop-next-3-1.given (c.loop-next.next - 1))
+    omega (arith, c.type_inv.nexts (c.loop-next.next - 1))
 
 pub loop-next-smaller : goal.loop-next-smaller
 loop-next-smaller c =
@@ -49,13 +47,15 @@ loop-next-smaller c =
 pub loop-next-preserved : goal.loop-next-preserved
 loop-next-preserved c =
     let meet = c.meet in
-    let P : Set = λ w. overlaps (get_or c.args.table.now w 0) c.args.word in (
-      ⊎_elim (λ w. ap length w.5 ∙ w.2.ensures.0) (λ w. ap length w.1 ∙ c.loop-next.invariant.0) c.if-meet.branch,
-      ⊎_elim
-          (λ w. subst (λ (ws : List ℕ). Calling c.args.edges.now P c.args.node c.args.waiting.now ws (get_or c.args.nexts.now (c.loop-next.next - 1) 0)) (sym w.5) (calling_more c.requires.edges_value.1 P c.loop-next.invariant.1 c.loop-next-test.true (sym meet.ensures ∙ w.0.taken) w.2.ensures.1))
-          (λ w. subst (λ (ws : List ℕ). Calling c.args.edges.now P c.args.node c.args.waiting.now ws (get_or c.args.nexts.now (c.loop-next.next - 1) 0)) (sym w.1) (calling_pass c.requires.edges_value.1 P c.loop-next.invariant.1 c.loop-next-test.true (sym meet.ensures ∙ w.0.left)))
-          c.if-meet.branch,
-    )
+    let P : Set = λ w. overlaps (get_or c.args.table.now w 0) c.args.word in
+    elim c.if-meet.branch [
+      | then-meet w ↦
+          rw w.waiting-is
+          (w.put_in.ensures.0, calling_more c.requires.edges_value.1 P c.loop-next.invariant.1 c.loop-next-test.true (sym meet.ensures ∙ w.if-meet.true) w.put_in.ensures.1)
+      | else-meet w ↦
+          rw w.waiting-is
+          (c.loop-next.invariant.0, calling_pass c.requires.edges_value.1 P c.loop-next.invariant.1 c.loop-next-test.true (sym meet.ensures ∙ w.if-meet.false))
+    ]
 
 pub returns : goal.returns
 returns c =

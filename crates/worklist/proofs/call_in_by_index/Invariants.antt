@@ -1,17 +1,8 @@
 -- `call_in_by_index` meets its contract: `next` edges are left, and the predecessors by later edges have been called in.
-use Prim.Native.Nat.{ℕ, ◌-◌}
 use Rattle.bits.specs.Word.{overlaps}
-use Rattle.worklist.proofs.CalledIn.{Calling, calling_none, calling_more, calling_pass, calling_done}
-use Rattle.edge_indexes.proofs.Incoming.{chained_less}
-use Rattle.session.proofs.Tables.{below-take}
-use Rattle.simulation.specs.Sets.{Set}
-use borrow.Author.Rules.{rules}
+use Rattle.worklist.proofs.CalledIn.{Calling}
 use lib.ListN.{length, get_or}
-use mathlib.Core.List.{List}
-use mathlib.Core.Logic.{⊎_elim}
-use mathlib.Core.Path.{◌≡◌, sym, ap, subst, ◌∙◌}
-use native.Mathlib.Omega.{arith}
-use Rattle.session.specs.Limits.{edge_numbers}
+use mathlib.Core.Path.{◌≡◌}
 use Rattle.worklist.specs.Waiting.{waiting_words}
 use Rattle.worklist.proofs.call_in_by_index.Given as goal
 

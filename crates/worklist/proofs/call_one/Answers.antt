@@ -2,7 +2,6 @@
 use Rattle.bits.specs.Word.{overlaps}
 use Rattle.worklist.proofs.CalledIn.{one_in, one_out, ends_elsewhere, start_fails}
 use Rattle.simulation.specs.Sets.{Set}
-use borrow.Author.Rules.{rules}
 use lib.ListN.{get_or}
 use mathlib.Core.Path.{sym, ◌∙◌}
 use Rattle.worklist.proofs.call_one.Goals as goal

@@ -1,9 +1,8 @@
-use Prim.Native.Nat.{◌-◌, ◌≤◌}
 use borrow.Author.Rules.{rules}
 use native.Mathlib.Omega.{arith}
 use mathlib.Core.Path.{◌≡◌, refl, ap, fun_ext, ◌∙◌}
 use Rattle.simulation.specs.Sets.{none, Set}
-use Rattle.bits.specs.Word.{members, set_bits}
+use Rattle.bits.specs.Word.{set_bits}
 use Rattle.bits.proofs.Words.{zero-members}
 use Rattle.simulation.proofs.Gains.{gained, gained-none, gained-all}
 use Rattle.worklist.proofs.Occupied.{occupied, none-past, held-step}

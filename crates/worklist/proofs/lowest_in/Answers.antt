@@ -1,10 +1,7 @@
-use Prim.Native.Nat.{◌-◌, ◌*◌, ◌≤◌}
 use borrow.Author.Rules.{rules}
 use native.Mathlib.Omega.{arith}
 use mathlib.Core.Path.{sym}
-use Rattle.worklist.proofs.Waits.{Idle, idle_more, waits-lowest, waits-none}
-use Rattle.bits.specs.Word.{set_bits}
-use Rattle.worklist.specs.Waiting.{waiting_words}
+use Rattle.worklist.proofs.Waits.{idle_more, waits-lowest, waits-none}
 use Rattle.worklist.proofs.lowest_in.Goals as goal
 
 pub loop-i-init : goal.loop-i-init

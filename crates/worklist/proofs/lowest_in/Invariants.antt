@@ -1,9 +1,6 @@
 -- `lowest_in` meets its contract: before word i no node waits below it.
 use Prim.Native.Nat.{◌-◌, ◌*◌, ◌≤◌}
-use borrow.Author.Rules.{rules}
-use native.Mathlib.Omega.{arith}
-use mathlib.Core.Path.{sym}
-use Rattle.worklist.proofs.Waits.{Idle, idle_more, waits-lowest, waits-none}
+use Rattle.worklist.proofs.Waits.{Idle}
 use Rattle.bits.specs.Word.{set_bits}
 use Rattle.worklist.specs.Waiting.{waiting_words}
 use Rattle.worklist.proofs.lowest_in.Given as goal
