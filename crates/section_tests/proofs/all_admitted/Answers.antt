@@ -1,6 +1,5 @@
 -- `all_admitted` meets its contract: the halves that are compared hold the samples.
 use Prim.Native.Nat.{ℕ}
-use borrow.Author.Rules.{rules}
 use native.Mathlib.Omega.{arith}
 use mathlib.Core.Path.{◌≡◌, refl, sym, ap, ◌∙◌}
 use mathlib.Core.List.{List, ◌++◌}
@@ -33,9 +32,10 @@ held : (c : After-narrow) → c.narrow.new.place ≡ c.args.samples.now
 held c = c.narrow.ensures ∙ halves_small c.args.samples.now 0 refl c.requires.samples_value.0
 
 samples-read : (c : After-narrow)
-    → take (nodes «After-shared_slice_known-4-1») (c.narrow.new.place ++ drop (nodes «After-shared_slice_known-4-1») zeros) ≡ c.args.samples.now
+    → let n = length c.args.marks.now in
+    take n (c.narrow.new.place ++ drop n zeros) ≡ c.args.samples.now
 samples-read c =
-    front_read zeros c.narrow.new.place c.args.samples.now (nodes (c.before.before.before.before.before.before.before.before)) (held c) c.requires.samples_len.0
+    front_read zeros c.narrow.new.place c.args.samples.now (length c.args.marks.now) (held c) c.requires.samples_len.0
 
 pub returns-then-used-eq0 : goal.returns-then-used-eq0
 returns-then-used-eq0 c =

@@ -1,17 +1,13 @@
-use Prim.Native.Nat.{ℕ, ◌+◌, ◌-◌, ◌≤◌}
-use borrow.Author.Rules.{rules}
+use Prim.Native.Nat.{◌+◌, ◌-◌}
 use borrow.Author.Tests.{lt-ltb, le-ltb}
 use native.Mathlib.Omega.{arith}
 use mathlib.Core.Path.{◌≡◌}
-use mathlib.Core.Logic.{⊎_elim}
-use mathlib.Core.List.{List}
-use lib.Dec.{ltb}
 use lib.ListN.{length, get_or}
-use Rattle.simulation.specs.Sets.{Set}
 use Rattle.simulation.specs.Ordered.{ascends}
-use Rattle.simulation.proofs.Folds.{Folded, fold_start, fold_pass, fold_fault, fold_end}
+use Rattle.simulation.proofs.Folds.{fold_start, fold_pass, fold_fault, fold_end}
 use Rattle.section_tests.proofs.all_ascend.Invariants.{rises}
 use Rattle.section_tests.proofs.all_ascend.Goals as goal
+use Rattle.section_tests.proofs.all_ascend.Goals.{then-edges-k, else-edges-k}
 
 pub loop-k-init : goal.loop-k-init
 loop-k-init c =
@@ -26,16 +22,16 @@ loop-k-preserved c =
     let next : l.k + 1 - 1 ≡ j + 1 = omega arith in (
       omega arith,
       rw next
-          (⊎_elim
-          (λ w.
-          rw w.1
-          (fold_fault (rises es) (length es - 1) j (omega arith)
-          (rw here (le-ltb (get_or es j 0) (get_or es l.k 0) w.0.taken))))
-          (λ w.
-          rw w.1
-          (fold_pass (rises es) (length es - 1) l.faults j l.invariant.1 (omega arith)
-          (rw here (lt-ltb (get_or es j 0) (get_or es l.k 0) w.0.left))))
-          c.if-edges-k.branch),
+          (elim c.if-edges-k.branch [
+            | then-edges-k w ↦
+                rw w.faults-is
+                (fold_fault (rises es) (length es - 1) j (omega arith)
+                (rw here (le-ltb (get_or es j 0) (get_or es l.k 0) w.if-edges-k.true)))
+            | else-edges-k w ↦
+                rw w.faults-is
+                (fold_pass (rises es) (length es - 1) l.faults j l.invariant.1 (omega arith)
+                (rw here (lt-ltb (get_or es j 0) (get_or es l.k 0) w.if-edges-k.false)))
+          ]),
     )
 
 pub returns : goal.returns

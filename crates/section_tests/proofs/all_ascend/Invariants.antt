@@ -1,16 +1,10 @@
 -- `all_ascend` meets its contract: a fault is noted where an edge is not above the one before it.
 use Prim.Native.Nat.{ℕ, ◌+◌, ◌-◌, ◌≤◌}
-use borrow.Author.Rules.{rules}
-use borrow.Author.Tests.{lt-ltb, le-ltb}
-use native.Mathlib.Omega.{arith}
-use mathlib.Core.Path.{◌≡◌}
-use mathlib.Core.Logic.{⊎_elim}
 use mathlib.Core.List.{List}
 use lib.Dec.{ltb}
 use lib.ListN.{length, get_or}
 use Rattle.simulation.specs.Sets.{Set}
-use Rattle.simulation.specs.Ordered.{ascends}
-use Rattle.simulation.proofs.Folds.{Folded, fold_start, fold_pass, fold_fault, fold_end}
+use Rattle.simulation.proofs.Folds.{Folded}
 use Rattle.section_tests.proofs.all_ascend.Given as goal
 
 -- the edge j is below the next

@@ -1,14 +1,12 @@
-use Prim.Native.Nat.{◌-◌}
-use borrow.Author.Rules.{rules}
 use borrow.Author.Tests.{lt-ltb, le-ltb}
 use native.Mathlib.Omega.{arith}
-use mathlib.Core.Logic.{⊎_elim}
 use lib.Dec.{ltb}
 use lib.ListN.{length, get_or}
 use Rattle.simulation.specs.Sets.{Set}
 use Rattle.session.specs.Layout.{below}
-use Rattle.simulation.proofs.Folds.{Folded, fold_start, fold_pass, fold_fault, fold_end}
+use Rattle.simulation.proofs.Folds.{fold_start, fold_pass, fold_fault, fold_end}
 use Rattle.section_tests.proofs.all_below.Goals as goal
+use Rattle.section_tests.proofs.all_below.Goals.{then-limit-words, else-limit-words}
 
 pub loop-k-init : goal.loop-k-init
 loop-k-init c =
@@ -20,10 +18,10 @@ loop-k-preserved c =
     let l = c.loop-k in
     let P : Set = λ j. ltb (get_or a.words.now j 0) a.limit in
     let n = length a.words.now in
-    ⊎_elim
-    (λ w. rw w.1 (fold_fault P n l.k (omega arith) (le-ltb (get_or a.words.now l.k 0) a.limit w.0.taken)))
-    (λ w. rw w.1 (fold_pass P n l.faults l.k l.invariant (omega arith) (lt-ltb (get_or a.words.now l.k 0) a.limit w.0.left)))
-    c.if-limit-words.branch
+    elim c.if-limit-words.branch [
+      | then-limit-words w ↦ rw w.faults-is (fold_fault P n l.k (omega arith) (le-ltb (get_or a.words.now l.k 0) a.limit w.if-limit-words.true))
+      | else-limit-words w ↦ rw w.faults-is (fold_pass P n l.faults l.k l.invariant (omega arith) (lt-ltb (get_or a.words.now l.k 0) a.limit w.if-limit-words.false))
+    ]
 
 pub returns : goal.returns
 unfolding below

@@ -1,15 +1,14 @@
 use Prim.Native.Nat.{◌-◌, ◌%◌}
-use Rattle.simulation.proofs.Folds.{Folded, fold_start, fold_pass, fold_fault, fold_end}
+use Rattle.simulation.proofs.Folds.{fold_start, fold_pass, fold_fault, fold_end}
 use Rattle.section_tests.proofs.Named.{ending, none_named, start_fails, ends_decide}
 use Rattle.simulation.specs.Sets.{Set}
-use borrow.Author.Rules.{rules}
 use borrow.Author.Tests.{lt-ltb, le-ltb}
 use lib.ListN.{length, get_or}
-use mathlib.Core.Logic.{⊎_elim}
 use mathlib.Core.Path.{◌∙◌}
 use native.Mathlib.Omega.{arith}
 use Rattle.session.specs.Limits.{max_nodes}
 use Rattle.section_tests.proofs.all_named.Goals as goal
+use Rattle.section_tests.proofs.all_named.Goals.{then-last-edges, else-last-edges}
 
 pub returns-then-count-eq0 : goal.returns-then-count-eq0
 returns-then-count-eq0 c =
@@ -30,10 +29,11 @@ loop-k-preserved c =
     let n = length a.edges.now in
     let e = get_or a.edges.now l.k 0 in
     let E : Set = ending a.nodes a.edges.now in
-    ⊎_elim
-    (λ w. rw w.1 (fold_fault E n l.k (omega arith) (le-ltb (e % max_nodes) a.nodes (omega (arith, w.0.taken)))))
-    (λ w. rw w.1 (fold_pass E n l.faults l.k l.invariant (omega arith) (lt-ltb (e % max_nodes) a.nodes (omega (arith, w.0.left)))))
-    c.if-last-edges.branch
+    elim c.if-last-edges.branch [
+      | then-last-edges w ↦ rw w.faults-is (fold_fault E n l.k (omega arith) (le-ltb (e % max_nodes) a.nodes (omega (arith, w.if-last-edges.true))))
+      | else-last-edges w ↦
+          rw w.faults-is (fold_pass E n l.faults l.k l.invariant (omega arith) (lt-ltb (e % max_nodes) a.nodes (omega (arith, w.if-last-edges.false))))
+    ]
 
 pub returns : goal.returns
 returns c =

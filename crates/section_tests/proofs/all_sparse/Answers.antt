@@ -1,9 +1,7 @@
-use Prim.Native.Nat.{ℕ, ◌-◌, ◌^◌, ◌<◌}
-use borrow.Author.Rules.{rules}
+use Prim.Native.Nat.{ℕ, ◌^◌, ◌<◌}
 use native.Mathlib.Omega.{arith}
 use mathlib.Core.Path.{◌≡◌, sym, ap, ◌∙◌}
 use mathlib.Core.Bool.{Bool, not}
-use mathlib.Core.Logic.{⊎_elim}
 use mathlib.Core.List.{List}
 use lib.Bits.{bit_and, and_le_r}
 use lib.ListN.{length, get_or}
@@ -17,10 +15,10 @@ use Rattle.session.specs.Tests.{sparse}
 use Rattle.session.proofs.Admission.{matches-part}
 use Rattle.session.proofs.Tables.{below-take}
 use Rattle.section_tests.proofs.Unadmitted.{stray, sparse-stray, sparse-same, sparse-none}
-use Rattle.simulation.proofs.Folds.{Folded, fold_start, fold_pass, fold_fault, fold_end}
+use Rattle.simulation.proofs.Folds.{fold_start, fold_pass, fold_fault, fold_end}
 use Rattle.section_tests.proofs.all_sparse.Invariants.{admitted}
 use Rattle.section_tests.proofs.all_sparse.Goals as goal
-use Rattle.section_tests.proofs.all_sparse.Goals.{In-loop-u}
+use Rattle.section_tests.proofs.all_sparse.Goals.{In-loop-u, then-has+then-has-2, then-has+else-has-2, else-has}
 
 -- what the marks that are found say, with the part of the value inside the mask
 tested : (samples marks : List ℕ) (turned : ℕ) (over : Bool) (mask value all u : ℕ) → mask < 2 ^ word_bits → over ≡ members turned u
@@ -66,23 +64,23 @@ loop-u-preserved c =
     let n = length a.masks.now in
     let mask = get_or a.masks.now l.u 0 in
     let value = get_or a.values.now l.u 0 in
-    ⊎_elim
-    (λ w.
-    rw w.7
-    (fold_fault P n l.u (omega arith)
-    (tested a.samples.now a.marks.now a.turned w.3.result mask value w.4.result l.u (small (goal.at.loop-u-preserved c).In-loop-u) w.3.ensures w.4.ensures
-    ∙ ap not (sym w.5.ensures ∙ w.6.taken))))
-    (⊎_elim
-    (λ w.
-    rw w.7
-    (fold_pass P n l.faults l.u l.invariant (omega arith)
-    (tested a.samples.now a.marks.now a.turned w.3.result mask value w.4.result l.u (small (goal.at.loop-u-preserved c).In-loop-u) w.3.ensures w.4.ensures
-    ∙ ap not (sym w.5.ensures ∙ w.6.left))))
-    (λ w.
-    rw w.1
-    (fold_pass P n l.faults l.u l.invariant (omega arith)
-    (sparse-none a.samples.now a.marks.now (matches word_bits (members a.turned l.u) mask value) l.u (sym (c.requires.by_index l.u (omega arith)) ∙ sym c.has.ensures ∙ w.0.left)))))
-    c.if-has.branch
+    let word = small (goal.at.loop-u-preserved c).In-loop-u in
+    elim c.if-has.branch [
+      | then-has+then-has-2 w ↦
+          rw w.faults-is
+          (fold_fault P n l.u (omega arith)
+          (tested a.samples.now a.marks.now a.turned w.has-over.result mask value w.strays-stray.result l.u word w.has-over.ensures w.strays-stray.ensures
+          ∙ ap not (sym w.has-then-has.ensures ∙ w.if-has-2.true)))
+      | then-has+else-has-2 w ↦
+          rw w.faults-is
+          (fold_pass P n l.faults l.u l.invariant (omega arith)
+          (tested a.samples.now a.marks.now a.turned w.has-over.result mask value w.strays-stray.result l.u word w.has-over.ensures w.strays-stray.ensures
+          ∙ ap not (sym w.has-then-has.ensures ∙ w.if-has-2.false)))
+      | else-has w ↦
+          rw w.faults-is
+          (fold_pass P n l.faults l.u l.invariant (omega arith)
+          (sparse-none a.samples.now a.marks.now (matches word_bits (members a.turned l.u) mask value) l.u (sym (c.requires.by_index l.u (omega arith)) ∙ sym c.has.ensures ∙ w.if-has.false)))
+    ]
 
 pub returns : goal.returns
 returns c =

@@ -1,24 +1,13 @@
 -- `all_sparse` meets its contract: a fault is noted where a state has a mark that is not admitted.
-use Prim.Native.Nat.{ℕ, ◌-◌, ◌^◌, ◌<◌}
-use borrow.Author.Rules.{rules}
-use native.Mathlib.Omega.{arith}
-use mathlib.Core.Path.{◌≡◌, sym, ap, ◌∙◌}
-use mathlib.Core.Bool.{Bool, not}
-use mathlib.Core.Logic.{⊎_elim}
+use Prim.Native.Nat.{ℕ, ◌-◌}
 use mathlib.Core.List.{List}
-use lib.Bits.{bit_and, and_le_r}
 use lib.ListN.{length, get_or}
 use Rattle.simulation.specs.Sets.{Set}
 use Rattle.bits.specs.Word.{members}
-use Rattle.bits.proofs.Words.{and_again}
-use Rattle.bits.proofs.Gathers.{gathers}
 use Rattle.session.specs.Limits.{word_bits}
 use Rattle.session.specs.Trigger.{matches}
 use Rattle.session.specs.Tests.{sparse}
-use Rattle.session.proofs.Admission.{matches-part}
-use Rattle.session.proofs.Tables.{below-take}
-use Rattle.section_tests.proofs.Unadmitted.{stray, sparse-stray, sparse-same, sparse-none}
-use Rattle.simulation.proofs.Folds.{Folded, fold_start, fold_pass, fold_fault, fold_end}
+use Rattle.simulation.proofs.Folds.{Folded}
 use Rattle.section_tests.proofs.all_sparse.Given as goal
 
 -- the marks of the state u are admitted

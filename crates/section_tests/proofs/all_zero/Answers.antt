@@ -1,5 +1,4 @@
 -- `all_zero` meets its contract: there is no member in the union just where each word is zero.
-use borrow.Author.Rules.{rules}
 use Rattle.bits.proofs.Gathers.{gathered_zero}
 use Rattle.session.specs.Layout.{below}
 use Rattle.section_tests.proofs.all_zero.Goals as goal

@@ -1,6 +1,5 @@
 -- `both_admitted` meets its contract: a half word has a bit for each state, or the states are tested in two parts.
 use Prim.Native.Nat.{ℕ, ◌-◌, ◌^◌, ◌≤◌}
-use borrow.Author.Rules.{rules}
 use native.Mathlib.Omega.{arith}
 use mathlib.Core.Path.{◌≡◌, refl, sym, ap, ap₂, ◌∙◌}
 use mathlib.Core.Bool.{Bool, ◌&&◌}
@@ -8,7 +7,6 @@ use mathlib.Core.List.{List}
 use lib.ListN.{length, get_or, take, drop, length-drop}
 use lib.Seq.{take_all, length-take-le}
 use Rattle.simulation.specs.Sets.{all_below}
-use borrow.Author.Tests.{not-true, not-false}
 use Rattle.bits.specs.Word.{members, half_bits}
 use Rattle.session.specs.Limits.{word_bits}
 use Rattle.session.specs.Trigger.{matches}
@@ -78,7 +76,7 @@ returns-then-not-half_admitted c =
     let ms = a.masks.now in
     let vs = a.values.now in
     let high = all_below (length (take (length ms - half_bits) (drop half_bits ms))) (admitted a.samples.now a.marks.now a.turned (take (length ms - half_bits) (drop half_bits ms)) (take (length vs - half_bits) (drop half_bits vs)) half_bits) in
-    ap (λ (b : Bool). b && high) (sym (not-true c.half_admitted-2.result c.if-not-half_admitted.true-raw))
+    ap (λ (b : Bool). b && high) (sym c.if-not-half_admitted.true)
     ∙ parts (goal.at.returns-then-not-half_admitted c).Start (omega arith) c.half_admitted-2.result high c.half_admitted-2.ensures refl
 
 pub half_admitted-requires-3 : goal.half_admitted-requires-3
@@ -94,5 +92,5 @@ half_admitted-requires-3 c =
 
 pub returns : goal.returns
 returns c =
-    ap (λ (b : Bool). b && c.half_admitted-3.result) (sym (not-false c.half_admitted-2.result c.if-not-half_admitted.false-raw))
+    ap (λ (b : Bool). b && c.half_admitted-3.result) (sym c.if-not-half_admitted.false)
     ∙ parts (goal.at.returns c).Start (omega arith) c.half_admitted-2.result c.half_admitted-3.result c.half_admitted-2.ensures c.half_admitted-3.ensures

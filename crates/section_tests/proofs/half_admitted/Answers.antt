@@ -1,6 +1,5 @@
 -- `half_admitted` meets its contract: the halves that are compared hold the marks of these states.
 use Prim.Native.Nat.{ℕ, ◌+◌, ◌/◌, ◌^◌}
-use borrow.Author.Rules.{rules}
 use native.Mathlib.Omega.{arith}
 use mathlib.Core.Path.{◌≡◌, sym, ap, subst, ◌∙◌}
 use mathlib.Core.Bool.{Bool}

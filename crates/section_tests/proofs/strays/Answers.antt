@@ -1,5 +1,4 @@
 -- `strays` meets its contract: each call knows its turn.
-use borrow.Author.Rules.{rules}
 use mathlib.Core.Path.{refl}
 use mathlib.Core.Bool.{true, false}
 use Rattle.section_tests.proofs.strays.Goals as goal

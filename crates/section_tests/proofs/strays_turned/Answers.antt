@@ -1,14 +1,13 @@
-use Prim.Native.Nat.{ℕ, ◌-◌, ◌^◌, ◌≤◌}
-use borrow.Author.Rules.{rules}
+use Prim.Native.Nat.{ℕ}
 use native.Mathlib.Omega.{arith}
 use mathlib.Core.Path.{◌≡◌, sym, ap, fun_ext, ◌∙◌}
 use mathlib.Core.Bool.{Bool, true, false, not, ◌&&◌, and-true, and-false, cond}
 use lib.Bits.{bit_and}
 use lib.Dec.{eqb}
 use lib.ListN.{length, get_or}
-use Rattle.bits.specs.Word.{members, half_bits}
+use Rattle.bits.specs.Word.{members}
 use Rattle.bits.proofs.Words.{zero-members}
-use Rattle.bits.proofs.Gathers.{gathers, gather_none, gather_more}
+use Rattle.bits.proofs.Gathers.{gather_none, gather_more}
 use Rattle.session.specs.Limits.{word_bits}
 use Rattle.session.specs.Trigger.{matches}
 use Rattle.session.proofs.Admission.{matches-inside}

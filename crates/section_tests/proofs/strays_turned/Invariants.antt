@@ -1,18 +1,12 @@
 -- `strays_turned` meets its contract: after v nodes `all` has the marks at these that are not admitted.
-use Prim.Native.Nat.{ℕ, ◌-◌, ◌^◌, ◌≤◌}
-use borrow.Author.Rules.{rules}
-use native.Mathlib.Omega.{arith}
-use mathlib.Core.Path.{◌≡◌, sym, ap, fun_ext, ◌∙◌}
-use mathlib.Core.Bool.{Bool, true, false, not, ◌&&◌, and-true, and-false, cond}
-use lib.Bits.{bit_and}
-use lib.Dec.{eqb}
-use lib.ListN.{length, get_or}
+use Prim.Native.Nat.{◌-◌, ◌^◌, ◌≤◌}
+use mathlib.Core.Path.{◌≡◌}
+use mathlib.Core.Bool.{Bool, cond}
+use lib.ListN.{length}
 use Rattle.bits.specs.Word.{members, half_bits}
-use Rattle.bits.proofs.Words.{zero-members}
-use Rattle.bits.proofs.Gathers.{gathers, gather_none, gather_more}
+use Rattle.bits.proofs.Gathers.{gathers}
 use Rattle.session.specs.Limits.{word_bits}
 use Rattle.session.specs.Trigger.{matches}
-use Rattle.session.proofs.Admission.{matches-inside}
 use Rattle.section_tests.proofs.Unadmitted.{stray}
 use Rattle.section_tests.proofs.strays_turned.Given as goal
 

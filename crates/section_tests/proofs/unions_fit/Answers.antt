@@ -1,6 +1,5 @@
 -- `unions_fit` meets its contract: the mask of the k low bits, and no bit.
 use Prim.Native.Nat.{◌-◌, ◌^◌}
-use borrow.Author.Rules.{rules}
 use mathlib.Core.Path.{◌≡◌, ap, ◌∙◌}
 use mathlib.Core.Bool.{Bool, ◌&&◌}
 use lib.Dec.{eqb}
