@@ -4,7 +4,6 @@ use Rattle.session.specs.Limits.{edges_at, marks_at, max_edges}
 use Rattle.session.specs.Layout.{part, below}
 use Rattle.session.specs.Tests.{graph_test}
 use Rattle.simulation.specs.Ordered.{ascends}
-use borrow.Author.Rules.{rules}
 use mathlib.Core.Path.{◌≡◌, sym, ◌∙◌}
 use native.Mathlib.Nat.{add-sub_cancel_left, sub-add-eq}
 use Rattle.layout_test.proofs.graph_fits.Goals as goal

@@ -1,11 +1,7 @@
 -- `in_layout` meets its contract: a memory that fails a test is not in layout, and one that passes them all is.
-use Prim.Native.Nat.{ℕ}
-use borrow.Author.Rules.{rules}
-use borrow.Author.Tests.{not-true, not-false}
 use native.Mathlib.Omega.{arith}
 use mathlib.Core.Path.{◌≡◌, sym, ◌∙◌}
 use mathlib.Core.Bool.{true, ◌&&◌}
-use mathlib.Core.List.{List}
 use lib.ListN.{get_or}
 use Rattle.session.specs.Layout.{in_layout}
 use Rattle.session.specs.Tests.{trigger_test, graph_test, marks_test}
@@ -13,20 +9,17 @@ use Rattle.layout_test.proofs.Tested.{layout-short, layout_no_states, layout-sta
 use Rattle.layout_test.proofs.in_layout.Goals as goal
 use Rattle.layout_test.proofs.in_layout.Goals.{Else-edges-gt-MAX_EDGES, Else-not-trigger_fits}
 
--- the memory, where its counts keep their limits
-abbrev words : Else-edges-gt-MAX_EDGES → List ℕ
-words c = c.args.session.now
-
+-- what is left to test, where the counts of the memory keep their limits
 tests : (c : Else-edges-gt-MAX_EDGES)
-    → let xs = words c in
+    → let xs = c.args.session.now in
     in_layout xs
     ≡ (trigger_test xs (get_or xs 0 0) && (graph_test xs (get_or xs 1 0) (get_or xs 2 0) && marks_test xs (get_or xs 0 0) (get_or xs 1 0)))
-tests c = layout-test (words c) (omega arith) (omega arith) (omega arith) (omega arith) (omega arith)
+tests c = layout-test c.args.session.now (omega arith) (omega arith) (omega arith) (omega arith) (omega arith)
 
 trigger-passed : (c : Else-not-trigger_fits)
-    → let xs = words «Else-edges-gt-MAX_EDGES» in
+    → let xs = c.args.session.now in
     trigger_test xs (get_or xs 0 0) ≡ true
-trigger-passed c = sym c.trigger_fits.ensures ∙ not-false _ c.if-not-trigger_fits.false-raw
+trigger-passed c = sym c.trigger_fits.ensures ∙ c.if-not-trigger_fits.false
 
 pub returns-then-session-lt-FIXED_SIZE : goal.returns-then-session-lt-FIXED_SIZE
 returns-then-session-lt-FIXED_SIZE c =
@@ -34,15 +27,15 @@ returns-then-session-lt-FIXED_SIZE c =
 
 pub overflow_cast-states : goal.overflow_cast-states
 overflow_cast-states c =
-    omega (arith, c.shared_slice_known-2-1.given 0)
+    omega (arith, c.type_inv.session 0)
 
 pub overflow_cast-nodes : goal.overflow_cast-nodes
 overflow_cast-nodes c =
-    omega (arith, c.shared_slice_known-3-1.given 1)
+    omega (arith, c.type_inv.session 1)
 
 pub overflow_cast-edges : goal.overflow_cast-edges
 overflow_cast-edges c =
-    omega (arith, c.shared_slice_known-4-1.given 2)
+    omega (arith, c.type_inv.session 2)
 
 pub returns-then-states-eq0 : goal.returns-then-states-eq0
 returns-then-states-eq0 c =
@@ -62,16 +55,16 @@ returns-then-edges-gt-MAX_EDGES c =
 
 pub returns-then-not-trigger_fits : goal.returns-then-not-trigger_fits
 returns-then-not-trigger_fits c =
-    rw (tests (goal.at.returns-then-not-trigger_fits c).Else-edges-gt-MAX_EDGES, ← c.trigger_fits.ensures, not-true c.trigger_fits.result c.if-not-trigger_fits.true-raw)
+    rw (tests (goal.at.returns-then-not-trigger_fits c).Else-edges-gt-MAX_EDGES, ← c.trigger_fits.ensures, c.if-not-trigger_fits.true)
 
 pub returns-then-not-graph_fits : goal.returns-then-not-graph_fits
 returns-then-not-graph_fits c =
-    rw (tests (goal.at.returns-then-not-graph_fits c).Else-edges-gt-MAX_EDGES, trigger-passed (goal.at.returns-then-not-graph_fits c).Else-not-trigger_fits, ← c.graph_fits.ensures, not-true c.graph_fits.result c.if-not-graph_fits.true-raw)
+    rw (tests (goal.at.returns-then-not-graph_fits c).Else-edges-gt-MAX_EDGES, trigger-passed (goal.at.returns-then-not-graph_fits c).Else-not-trigger_fits, ← c.graph_fits.ensures, c.if-not-graph_fits.true)
 
 pub marks_fit-requires : goal.marks_fit-requires
 marks_fit-requires c =
-    let xs = words (goal.at.marks_fit-requires c).Else-edges-gt-MAX_EDGES in
-    let graph : graph_test xs (get_or xs 1 0) (get_or xs 2 0) ≡ true = sym c.graph_fits.ensures ∙ not-false _ c.if-not-graph_fits.false-raw in record {
+    let xs = c.args.session.now in
+    let graph : graph_test xs (get_or xs 1 0) (get_or xs 2 0) ≡ true = sym c.graph_fits.ensures ∙ c.if-not-graph_fits.false in record {
       fixed_size_in_bounds = (omega arith, omega arith, omega arith);
       states_value = test-masks xs (get_or xs 0 0) (trigger-passed (goal.at.marks_fit-requires c).Else-not-trigger_fits) (omega arith) (omega arith);
       nodes_value = test-samples xs (get_or xs 1 0) (get_or xs 2 0) graph (omega arith) (omega arith) (omega arith);
@@ -79,5 +72,5 @@ marks_fit-requires c =
 
 pub returns : goal.returns
 returns c =
-    rw (tests (goal.at.returns c).Else-edges-gt-MAX_EDGES, trigger-passed (goal.at.returns c).Else-not-trigger_fits, ← c.graph_fits.ensures, not-false c.graph_fits.result c.if-not-graph_fits.false-raw)
+    rw (tests (goal.at.returns c).Else-edges-gt-MAX_EDGES, trigger-passed (goal.at.returns c).Else-not-trigger_fits, ← c.graph_fits.ensures, c.if-not-graph_fits.false)
     c.marks_fit.ensures

@@ -1,5 +1,4 @@
 -- `trigger_fits` meets its contract: each section is tested where those before it fit, and the inverted states last.
-use borrow.Author.Rules.{rules}
 use Rattle.session.specs.Tests.{trigger_test}
 use Rattle.layout_test.proofs.trigger_fits.Goals as goal
 
