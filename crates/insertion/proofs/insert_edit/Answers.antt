@@ -21,28 +21,25 @@ use Rattle.insertion.proofs.Inserted.{in_layout_lem, start_near, end_near, inser
 use borrow.Author.Rules.{rules}
 use Rattle.session.specs.Limits.{max_nodes}
 use Rattle.insertion.proofs.insert_edit.Goals as goal
-use Rattle.insertion.proofs.insert_edit.Goals.{After-insert_edge, After-try_out-trials}
+use Rattle.insertion.proofs.insert_edit.Goals.{After-insert_edge, After-try_out-trials, After-put_together}
 
-abbrev xs₁ : After-insert_edge → List ℕ
-xs₁ c = c.insert_edge.new.session
-
-layout : (c : After-insert_edge) → in_layout (xs₁ c) ≡ true
+layout : (c : After-insert_edge) → in_layout c.insert_edge.new.session ≡ true
 layout c =
-    in_layout_lem c.args.session.now c.args.start c.args.end c.requires.0 c.requires.1 (xs₁ c) c.insert_edge.ensures
+    in_layout_lem c.args.session.now c.args.start c.args.end c.requires.0 c.requires.1 c.insert_edge.new.session c.insert_edge.ensures
 
-near : (c : After-insert_edge) → c.args.start < nodes (graph_of (xs₁ c))
+near : (c : After-insert_edge) → c.args.start < nodes (graph_of c.insert_edge.new.session)
 near c =
-    start_near c.args.session.now c.args.start c.args.end c.requires.0 c.requires.1 (xs₁ c) c.insert_edge.ensures
+    start_near c.args.session.now c.args.start c.args.end c.requires.0 c.requires.1 c.insert_edge.new.session c.insert_edge.ensures
 
-begun : (c : After-try_out-trials) → Begun (xs₁ «After-slice_known-1») c.args.start c.args.end c.try_out-trials.new.table c.try_out-trials.result
+begun : (c : After-try_out-trials) → Begun c.insert_edge.new.session c.args.start c.args.end c.try_out-trials.new.table c.try_out-trials.result
 begun c = c.try_out-trials.ensures c.args.end c.seeds_at-seeds.ensures
 
-both : (p : tie.After-put-together) (u v : ℕ)
-    → let t = tried p in marked p.put-together.new.0 u v ≡ (marked t.try-out.last.1.1.1.0 u v || marks_of (xs₁ (edge_in (seeded t))) u v)
-both p u v =
-    let i = edge_in (seeded (tried p)) in
-    p.put-together.ensures.1 u v
-    ∙ ap (λ (m : Marks). marked (tried p).try-out.new.1.1.1.0 u v || m u v) (ap marked p.before.marks-of2.ensures ∙ held-marks (xs₁ i) (layout i))
+both : (c : After-put_together) (u v : ℕ)
+    → marked c.put_together.new.table u v ≡ (marked c.try_out-trials.new.table u v || marks_of c.insert_edge.new.session u v)
+both c u v =
+    let l = in_layout_lem c.args.session.now c.args.start c.args.end c.requires.0 c.requires.1 c.insert_edge.new.session c.insert_edge.ensures in
+    c.put_together.ensures.1 u v
+    ∙ ap (λ (m : Marks). marked c.try_out-trials.new.table u v || m u v) (ap marked c.marks_of-2.ensures ∙ held-marks c.insert_edge.new.session l)
 
 pub insert_edge-requires : goal.insert_edge-requires
 insert_edge-requires c =
@@ -57,16 +54,16 @@ pub seeds_at-seeds-requires : goal.seeds_at-seeds-requires
 seeds_at-seeds-requires c = (
   layout (goal.at.seeds_at-seeds-requires c).After-insert_edge,
   near (goal.at.seeds_at-seeds-requires c).After-insert_edge,
-  end_near c.args.session.now c.args.start c.args.end c.requires.0 c.requires.1 (xs₁ (goal.at.seeds_at-seeds-requires c).After-insert_edge) c.insert_edge.ensures,
+  end_near c.args.session.now c.args.start c.args.end c.requires.0 c.requires.1 c.insert_edge.new.session c.insert_edge.ensures,
 )
 
 pub returns-then-seeds-eq0 : goal.returns-then-seeds-eq0
 returns-then-seeds-eq0 c =
     let a = c.args in (
-      inserted_same a.session.now a.start a.end c.requires.0 c.requires.1 (xs₁ (goal.at.returns-then-seeds-eq0 c).After-insert_edge) c.insert_edge.ensures
+      inserted_same a.session.now a.start a.end c.requires.0 c.requires.1 c.insert_edge.new.session c.insert_edge.ensures
           (λ u.
           sym (ap (λ (X : Set). X u) c.seeds_at-seeds.ensures) ∙ ap (λ (w : ℕ). members w u) c.if-seeds-eq0.true ∙ zero-members u),
-      saved_calm insertion a.session.now a.start a.end c.requires.0 c.requires.1 (xs₁ (goal.at.returns-then-seeds-eq0 c).After-insert_edge) c.insert_edge.ensures _,
+      saved_calm insertion a.session.now a.start a.end c.requires.0 c.requires.1 c.insert_edge.new.session c.insert_edge.ensures _,
     )
 
 pub marks_of-requires : goal.marks_of-requires
@@ -75,7 +72,7 @@ marks_of-requires c =
 
 pub copy_words-requires : goal.copy_words-requires
 copy_words-requires c =
-    ap length c.marks_of.ensures ∙ marks-long (xs₁ (goal.at.copy_words-requires c).After-insert_edge) (layout (goal.at.copy_words-requires c).After-insert_edge) ∙ sym c.requires.2
+    ap length c.marks_of.ensures ∙ marks-long c.insert_edge.new.session (layout (goal.at.copy_words-requires c).After-insert_edge) ∙ sym c.requires.2
 
 pub try_out-trials-requires : goal.try_out-trials-requires
 try_out-trials-requires c =
@@ -90,26 +87,26 @@ marks_of-requires-2 c =
 
 pub put_together-requires : goal.put_together-requires
 put_together-requires c =
-    ap length c.marks_of-2.ensures ∙ marks-long (xs₁ (goal.at.put_together-requires c).After-insert_edge) (layout (goal.at.put_together-requires c).After-insert_edge) ∙ sym (begun (goal.at.put_together-requires c).After-try_out-trials).left.long
+    ap length c.marks_of-2.ensures ∙ marks-long c.insert_edge.new.session (layout (goal.at.put_together-requires c).After-insert_edge) ∙ sym (begun (goal.at.put_together-requires c).After-try_out-trials).left.long
 
 pub store_marks-requires : goal.store_marks-requires
 store_marks-requires c = (
   layout (goal.at.store_marks-requires c).After-insert_edge,
   c.put_together.ensures.0 ∙ (begun (goal.at.store_marks-requires c).After-try_out-trials).left.long,
-  stored_inside c.args.session.now c.args.start c.args.end c.requires.0 c.requires.1 (xs₁ (goal.at.store_marks-requires c).After-insert_edge) c.insert_edge.ensures
+  stored_inside c.args.session.now c.args.start c.args.end c.requires.0 c.requires.1 c.insert_edge.new.session c.insert_edge.ensures
       (begun (goal.at.store_marks-requires c).After-try_out-trials).trials c.try_out-trials.new.table c.put_together.new.table (begun (goal.at.store_marks-requires c).After-try_out-trials).tried (begun (goal.at.store_marks-requires c).After-try_out-trials).left (both (goal.at.store_marks-requires c).After-put_together),
 )
 
 pub shape_of-session : goal.shape_of-session
 shape_of-session c =
-    left-length _ _ _ (xs₁ (goal.at.shape_of-session c).After-insert_edge) c.store_marks.new.session (layout_limits (xs₁ (goal.at.shape_of-session c).After-insert_edge) (layout (goal.at.shape_of-session c).After-insert_edge)).long c.store_marks.ensures
-    ∙ left-length _ _ _ c.args.session.now (xs₁ (goal.at.shape_of-session c).After-insert_edge) (layout_limits c.args.session.now c.requires.0).long c.insert_edge.ensures
+    left-length _ _ _ c.insert_edge.new.session c.store_marks.new.session (layout_limits c.insert_edge.new.session (layout (goal.at.shape_of-session c).After-insert_edge)).long c.store_marks.ensures
+    ∙ left-length _ _ _ c.args.session.now c.insert_edge.new.session (layout_limits c.args.session.now c.requires.0).long c.insert_edge.ensures
 
 pub returns : goal.returns
 returns c =
     let a = c.args in (
-      inserted_stored a.session.now a.start a.end c.requires.0 c.requires.1 (xs₁ (goal.at.returns c).After-insert_edge) c.insert_edge.ensures
+      inserted_stored a.session.now a.start a.end c.requires.0 c.requires.1 c.insert_edge.new.session c.insert_edge.ensures
           (begun (goal.at.returns c).After-try_out-trials).trials c.try_out-trials.new.table c.put_together.new.table (begun (goal.at.returns c).After-try_out-trials).tried (begun (goal.at.returns c).After-try_out-trials).left (both (goal.at.returns c).After-put_together) c.try_out-trials.result (begun (goal.at.returns c).After-try_out-trials).counted _ c.store_marks.ensures,
-      saved-before insertion a.session.now a.start a.end c.requires.0 c.requires.1 (xs₁ (goal.at.returns c).After-insert_edge) c.insert_edge.ensures _ _
+      saved-before insertion a.session.now a.start a.end c.requires.0 c.requires.1 c.insert_edge.new.session c.insert_edge.ensures _ _
           (c.copy_words.ensures ∙ c.marks_of.ensures),
     )

@@ -36,7 +36,10 @@ overflow_cast-nodes c =
 
 pub index-requires : goal.index-requires
 index-requires c =
-    rw c.edges_of.ensures (((facts (goal.at.index-requires c).Start).graph.few_edges, refl, refl), zeros max_nodes)
+    rw c.edges_of.ensures (record {
+      edges_len_bound = ((facts (goal.at.index-requires c).Start).graph.few_edges, refl, refl);
+      by_index = zeros max_nodes;
+    })
 
 pub try_pairs-requires : goal.try_pairs-requires
 try_pairs-requires c =

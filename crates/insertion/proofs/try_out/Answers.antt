@@ -5,7 +5,6 @@ use mathlib.Core.List.{List}
 use mathlib.Core.Path.{◌≡◌, sym, ap, ◌∙◌}
 use lib.ListN.{set, get_or}
 use lib.Seq.{get_or-set_same, get_or-set_other}
-use borrow.Author.Tests.{not-false}
 use Rattle.simulation.specs.Sets.{count}
 use Rattle.bits.specs.Word.{members, set_bits}
 use Rattle.session.specs.Layout.{trigger_of, graph_of, marks_of}
@@ -16,7 +15,7 @@ use Rattle.editing.specs.Steps.{Holds, seeds_of}
 use Rattle.trials.proofs.Lonely.{alone-held}
 use borrow.Author.Rules.{rules}
 use Rattle.insertion.proofs.try_out.Goals as goal
-use Rattle.insertion.proofs.try_out.Goals.{Start}
+use Rattle.insertion.proofs.try_out.Goals.{Start, Else-not-alone}
 
 abbrev facts : (c : Start) → LayoutFacts c.args.session.now
 facts c = layout-facts c.args.session.now c.requires.session_value.0
@@ -24,19 +23,19 @@ facts c = layout-facts c.args.session.now c.requires.session_value.0
 abbrev seeded : Start → List ℕ
 seeded c = set c.args.table.now c.args.start c.args.seeds
 
-held : (e : tie.Else1) (b : ℕ)
-    → let s = entry e in let xs = s.args.session.now in
-    members s.args.seeds ≡ seeds_of xs s.args.start b
-    → Holds xs (trial_set (trigger_of xs) (graph_of xs) (marks_of xs) s.args.start b) (seeded s)
-held e b is =
-    let s = entry e in
-    let a = s.args in
-    alone-held a.session.now s.pre.0.0 a.start b a.seeds e.before.before.linking.result s.pre.0.1 is _ e.before.before.before.links-of.ensures
-    e.before.before.linking.ensures (sym e.before.alone.ensures ∙ not-false _ e.if1.false) a.table.now s.pre.0.2 s.pre.0.3
+-- where the seeds are alone
+held : (c : Else-not-alone) (b : ℕ)
+    → let xs = c.args.session.now in
+    members c.args.seeds ≡ seeds_of xs c.args.start b
+    → Holds xs (trial_set (trigger_of xs) (graph_of xs) (marks_of xs) c.args.start b) (set c.args.table.now c.args.start c.args.seeds)
+held c b is =
+    let a = c.args in
+    alone-held a.session.now c.requires.session_value.0 a.start b a.seeds c.linking-able.result c.requires.session_value.1 is _ c.links_of.ensures
+    c.linking-able.ensures (sym c.alone.ensures ∙ c.if-not-alone.false) a.table.now c.requires.session_value.2 c.requires.session_value.3
 
 -- the other words are zero
-others : (s : tie.Start) (v : ℕ) → (v ≡ s.args.start → ⊥) → get_or (seeded s) v 0 ≡ 0
-others s v ne = let a = s.args in get_or-set_other a.table.now a.start v a.seeds 0 ne ∙ s.requires.0.3 v
+others : (c : Start) (v : ℕ) → (v ≡ c.args.start → ⊥) → get_or (seeded c) v 0 ≡ 0
+others c v ne = let a = c.args in get_or-set_other a.table.now a.start v a.seeds 0 ne ∙ c.requires.session_value.3 v
 
 pub linking-able-requires : goal.linking-able-requires
 linking-able-requires c =
@@ -50,9 +49,9 @@ pub begin_at-requires : goal.begin_at-requires
 begin_at-requires c =
     let h = held (goal.at.begin_at-requires c).Else-not-alone c.requires.by_index.0 c.requires.by_index.1 in
     record {
-  session_value = (c.requires.session_value.0, c.requires.session_value.1, h.long, h.inside);
-  by_index = others (goal.at.begin_at-requires c).Start;
-}
+      session_value = (c.requires.session_value.0, c.requires.session_value.1, h.long, h.inside);
+      by_index = others (goal.at.begin_at-requires c).Start;
+    }
 
 pub returns : goal.returns
 returns c =
@@ -67,5 +66,5 @@ returns c =
       counted =
           c.size.ensures
           ∙ ap (λ (w : ℕ). count set_bits (members w)) (sym (get_or-set_same a.table.now a.start a.seeds 0 (omega (arith, c.requires.session_value.1, c.requires.session_value.2, f.graph.few))))
-          ∙ sym (pairs_single (seeded (goal.at.returns c).Start) (get_or a.session.now 0 0) (omega (arith, f.counts.0, f.trigger.few)) (λ u v (goal.at.returns c).Else-not-alone. omega (arith, (h.inside u v (goal.at.returns c).Else-not-alone).0, f.counts.0)) a.start (others (goal.at.returns c).Start) _ (omega (arith, c.requires.session_value.1, f.counts.1)));
+          ∙ sym (pairs_single (seeded (goal.at.returns c).Start) (get_or a.session.now 0 0) (omega (arith, f.counts.0, f.trigger.few)) (λ u v e. omega (arith, (h.inside u v e).0, f.counts.0)) a.start (others (goal.at.returns c).Start) _ (omega (arith, c.requires.session_value.1, f.counts.1)));
     }

@@ -8,11 +8,11 @@ use borrow.Author.Rules.{rules}
 use lib.ListN.{length, get_or}
 use mathlib.Core.Bool.{true, false}
 use mathlib.Core.List.{List}
-use mathlib.Core.Logic.{⊎_elim}
 use mathlib.Core.Path.{◌≡◌, refl, sym, ap, subst, ◌∙◌}
 use native.Mathlib.Omega.{arith}
 use Rattle.session.specs.Limits.{max_nodes}
 use Rattle.trials.proofs.alone.Goals as goal
+use Rattle.trials.proofs.alone.Goals.{then-edge-start+else-fresh_among, else-edge-start}
 
 pub loop-k-init : goal.loop-k-init
 loop-k-init c =
@@ -42,10 +42,9 @@ loop-k-preserved c =
       λ i.
           alone-more a.session.now i a.start a.word k (c.loop-k.invariant.1 i)
           (λ at-end.
-          ⊎_elim
-          (λ w. subst (λ (es : List ℕ). fresh_among a.session.now a.word (get_or es k 0 / max_nodes) ≡ false) is (sym w.1.ensures ∙ w.2.left))
-          (λ w. absurd (w.left (subst (λ (es : List ℕ). get_or es k 0 % max_nodes ≡ a.start) (sym is) at-end)))
-          c.if-edge-start.branch),
+          elim c.if-edge-start.branch [
+            then-edge-start+else-fresh_among w ↦ subst (λ (es : List ℕ). fresh_among a.session.now a.word (get_or es k 0 / max_nodes) ≡ false) is (sym w.fresh_among.ensures ∙ w.if-fresh_among.false)
+          | else-edge-start w ↦ absurd (w.if-edge-start.false (subst (λ (es : List ℕ). get_or es k 0 % max_nodes ≡ a.start) (sym is) at-end)) ]),
     )
 
 pub returns : goal.returns
