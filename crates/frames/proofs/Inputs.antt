@@ -252,7 +252,7 @@ prints-program m input output fresh calls =
 -- ---- a caller's sequence, call by call
 
 pub leads-none : (m : Memory) (begun : List ℕ) → Leads m begun [] [] m begun
-leads-none m begun more rest c = c
+leads-none m begun _ _ c = c
 
 pub leads_then : (m : Memory) (begun a o : List ℕ) (m' : Memory) (begun' b p : List ℕ) (m'' : Memory) (begun'' : List ℕ) → Leads m begun a o m' begun'
     → Leads m' begun' b p m'' begun'' → Leads m begun (a ++ b) (o ++ p) m'' begun''

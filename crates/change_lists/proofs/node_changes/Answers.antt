@@ -51,7 +51,7 @@ loop-rest-preserved c =
     let z = c.change in
     writing_next a.changes.now a.at a.node a.states a.before a.after c.loop-rest.invariant
     c.lowest-u.result c.lowest-u.ensures.1 c.lowest-u.ensures.2 c.without_lowest-rest.result (c.without_lowest-rest.ensures c.lowest-u.result c.lowest-u.ensures.1 c.lowest-u.ensures.2) _ (omega arith)
-    (to_z-of_z w32 z.result (record { sfits = z.type-inv })
+    (to_z-of_z w32 z.result (record { sfits = z.type_inv })
     ∙ z.ensures
     ∙ ap (λ (b : Bool). signed b (size_of c.lowest-u.result a.node)) c.has-is.ensures)
 

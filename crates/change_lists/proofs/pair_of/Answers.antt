@@ -10,5 +10,5 @@ use Rattle.change_lists.proofs.pair_of.Goals as goal
 pub returns : goal.returns
 returns c =
     let z = c.args.change in
-    let e : c.type_size.result ≡ nat_abs z = c.type_size.ensures ∙ ap nat_abs (to_z-of_z w32 z c.ranges.change) in
+    let e : c.size_of-size.result ≡ nat_abs z = c.size_of-size.ensures ∙ ap nat_abs (to_z-of_z w32 z c.ranges.change) in
     (omega arith, omega arith)

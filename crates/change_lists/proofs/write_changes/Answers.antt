@@ -3,13 +3,13 @@ use native.Mathlib.Omega.{arith}
 use borrow.Author.Rules.{rules}
 use borrow.Author.Tests.{eqb-true}
 use mathlib.Core.Path.{◌≡◌, refl, sym, ◌∙◌}
-use mathlib.Core.Logic.{⊎_elim}
 use lib.Dec.{eqb}
 use lib.ListN.{length, get_or}
 use Rattle.simulation.proofs.Sets.{all_take}
 use Rattle.listing.specs.Placed.{table_changes, Placed}
 use Rattle.listing.proofs.Placing.{placed-start, node-short, table_none, table_same, table_wrote, table-passed}
 use Rattle.session.specs.Limits.{max_states}
+use Rattle.change_lists.proofs.write_changes.Goals.{then-was-is, else-was-is}
 use Rattle.change_lists.proofs.write_changes.Goals as goal
 
 pub returns-then-same_words : goal.returns-then-same_words
@@ -34,16 +34,18 @@ loop-v-preserved c =
     let l = c.loop-v in
     let bs = a.before.now in
     let cs = a.after.now in
-    ⊎_elim
-    (λ w.
-    rw (w.4, w.5) (
-      search rules,
-      omega (arith, w.2.ensures.past, node-short l.v a.states (get_or bs l.v 0) (get_or cs l.v 0)),
-      w.2.kept.0 ∙ l.invariant.2,
-      table_wrote a.states bs cs l.v l.invariant.3 w.2.ensures,
-    ))
-    (λ w. rw (w.1, w.2) (search rules, search rules, l.invariant.2, table-passed a.states bs cs l.v l.invariant.3 w.0.left))
-    c.if-was-is.branch
+    elim c.if-was-is.branch [
+      then-was-is w ↦
+        let n = w.node_changes-next in
+        rw (w.changes-is, w.next-is) (
+          search rules,
+          omega (arith, n.ensures.past, node-short l.v a.states (get_or bs l.v 0) (get_or cs l.v 0)),
+          n.auto.changes ∙ l.invariant.2,
+          table_wrote a.states bs cs l.v l.invariant.3 n.ensures,
+        )
+    | else-was-is w ↦
+        rw (w.changes-is, w.next-is) (search rules, search rules, l.invariant.2, table-passed a.states bs cs l.v l.invariant.3 w.if-was-is.false)
+    ]
 
 pub returns : goal.returns
 returns c =

@@ -9,6 +9,7 @@ use Rattle.simulation.specs.Sets.{Set}
 use Rattle.simulation.proofs.Folds.{Folded, fold_start, fold_pass, fold_fault, fold_end}
 use Rattle.frames.specs.Digits as d
 use Rattle.digits.proofs.hexadecimal.Goals as goal
+use Rattle.digits.proofs.hexadecimal.Goals.{then-digit-ge16, else-digit-ge16}
 
 pub loop-k-init : goal.loop-k-init
 loop-k-init c =
@@ -21,10 +22,11 @@ loop-k-preserved c =
     let P : Set = λ i. ltb (d.digit (get_or bs i 0)) 16 in
     let v = d.digit (get_or bs l.k 0) in
     let is = c.digit.ensures in
-    ⊎_elim
-    (λ w. rw w.1 (fold_fault P (length bs) l.k (omega arith) (le-ltb v 16 (rw is at w.0.taken))))
-    (λ w. rw w.1 (fold_pass P (length bs) l.faults l.k l.invariant (omega arith) (lt-ltb v 16 (rw is at w.0.left))))
-    c.if-digit-ge16.branch
+    elim c.if-digit-ge16.branch [
+      then-digit-ge16 w ↦ rw w.faults-is (fold_fault P (length bs) l.k (omega arith) (le-ltb v 16 (rw is at w.if-digit-ge16.true)))
+    | else-digit-ge16 w ↦
+        rw w.faults-is (fold_pass P (length bs) l.faults l.k l.invariant (omega arith) (lt-ltb v 16 (rw is at w.if-digit-ge16.false)))
+    ]
 
 pub returns : goal.returns
 unfolding d.hexadecimal

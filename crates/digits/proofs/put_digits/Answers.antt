@@ -6,19 +6,24 @@ use lib.ListN.{length, length-set}
 use borrow.Author.Rules.{rules}
 use Rattle.frames.proofs.Written.{Writing, place-fits, writing_start, writing_next, writing_more, writing_end}
 use Rattle.digits.proofs.Fours.{writing_four, writing_rest}
-use Rattle.digits.proofs.put_digits.Invariants.{fours}
 use Rattle.digits.proofs.put_digits.Goals as goal
-use Rattle.digits.proofs.put_digits.Goals.{After-loop-left, At-loop-left}
+use Rattle.digits.proofs.put_digits.Goals.{At-loop-left, At-loop-left-2}
+
+-- where a loop stands, and that what is left has room there
+fours : (c : At-loop-left) → let l = c.loop-left in (l.next + l.left ≡ c.args.at + c.args.count) × (length l.out ≡ length c.args.out.now)
+fours c =
+    let l = c.loop-left in
+    writing_next c.args.out.now c.args.at c.args.count c.args.value c.requires.1 l.out l.next l.left l.invariant
 
 room : (c : At-loop-left) → c.loop-left.next + c.loop-left.left ≤ length c.loop-left.out
 room c = omega (arith, c.requires.1, fours c)
 
-ones : (c : After-loop-left)
-    → let l = c.loop-left in let k = c.loop-left in (k.next + k.left ≡ l.next + l.left) × (length k.out ≡ length l.out)
-ones c =
+ones : (c : At-loop-left-2) → c.loop-left.next + c.loop-left.left ≤ length c.loop-left.out
+    → let l = c.loop-left in let k = c.loop-left-2 in (k.next + k.left ≡ l.next + l.left) × (length k.out ≡ length l.out)
+ones c r =
     let l = c.loop-left in
-    let k = c.loop-left in
-    writing_next l.out l.next l.left c.args.value (room «After-slice_known-1») k.out k.next k.left k.invariant
+    let k = c.loop-left-2 in
+    writing_next l.out l.next l.left c.args.value r k.out k.next k.left k.invariant
 
 pub loop-left-init : goal.loop-left-init
 loop-left-init c =
@@ -87,7 +92,7 @@ letter-requires c =
 
 pub bounds-out-next-in-loop-left-2-2 : goal.bounds-out-next-in-loop-left-2-2
 bounds-out-next-in-loop-left-2-2 c =
-    omega (arith, ones (goal.at.bounds-out-next-in-loop-left-2-2 c).After-loop-left, room (goal.at.bounds-out-next-in-loop-left-2-2 c).At-loop-left)
+    omega (arith, ones (goal.at.bounds-out-next-in-loop-left-2-2 c).At-loop-left-2 (room (goal.at.bounds-out-next-in-loop-left-2-2 c).At-loop-left), room (goal.at.bounds-out-next-in-loop-left-2-2 c).At-loop-left)
 
 pub loop-left-2-preserved : goal.loop-left-2-preserved
 loop-left-2-preserved c =
@@ -98,7 +103,7 @@ loop-left-2-preserved c =
 
 pub shape_of-out : goal.shape_of-out
 shape_of-out c =
-    (ones (goal.at.shape_of-out c).After-loop-left).1 ∙ (fours (goal.at.shape_of-out c).At-loop-left).1
+    (ones (goal.at.shape_of-out c).At-loop-left-2 (room (goal.at.shape_of-out c).At-loop-left)).1 ∙ (fours (goal.at.shape_of-out c).At-loop-left).1
 
 pub returns : goal.returns
 returns c =

@@ -14,7 +14,7 @@ use Rattle.frame_reading.proofs.read_frame.Goals as goal
 use Rattle.frame_reading.proofs.read_frame.Goals.{Else-not-hexadecimal}
 
 held : (c : Else-not-hexadecimal) → d.hexadecimal c.args.line.now ≡ true
-held c = sym c.hexadecimal.ensures ∙ not-false _ c.if-not-hexadecimal.false-raw
+held c = sym c.hexadecimal.ensures ∙ c.if-not-hexadecimal.false
 
 pub returns-then-line-lt2 : goal.returns-then-line-lt2
 returns-then-line-lt2 c =
@@ -22,7 +22,7 @@ returns-then-line-lt2 c =
 
 pub returns-then-not-hexadecimal : goal.returns-then-not-hexadecimal
 returns-then-not-hexadecimal c =
-    line_other c.args.line.now (sym (ap not c.hexadecimal.ensures) ∙ c.if-not-hexadecimal.true-raw)
+    line_other c.args.line.now (ap not (sym c.hexadecimal.ensures ∙ c.if-not-hexadecimal.true))
 
 pub slice_bounds-number-end : goal.slice_bounds-number-end
 slice_bounds-number-end c =

@@ -22,9 +22,8 @@ bounded c = layout_limits _ (passed c).0
 -- the mark, as it was read
 read : (c : After-has)
     → let a = c.args in
-    c.has.result ≡ marks_of a.session.now (a.state - 1) a.node
-read c =
-    let n = (passed «Else-broken-ne0»).1 in
+    Named a.session.now a.state a.node → c.has.result ≡ marks_of a.session.now (a.state - 1) a.node
+read c n =
     c.has.ensures ∙ mark_held _ _ _ (omega (arith, n.some, n.state_held)) n.node_held
 
 pub returns-then-broken-ne0 : goal.returns-then-broken-ne0
@@ -45,8 +44,8 @@ has-requires c =
 
 pub returns-then-has : goal.returns-then-has
 returns-then-has c =
-    answer-accepted _ _ c.pair_rule-broken.ensures _ _ c.if-broken-ne0.false (sym c.if-has.true ∙ read (goal.at.returns-then-has c).After-has)
+    answer-accepted _ _ c.pair_rule-broken.ensures _ _ c.if-broken-ne0.false (sym c.if-has.true ∙ read (goal.at.returns-then-has c).After-has (passed (goal.at.returns-then-has c).Else-broken-ne0).1)
 
 pub returns-else-has : goal.returns-else-has
 returns-else-has c =
-    answer-accepted _ _ c.pair_rule-broken.ensures _ _ c.if-broken-ne0.false (sym c.if-has.false ∙ read (goal.at.returns-else-has c).After-has)
+    answer-accepted _ _ c.pair_rule-broken.ensures _ _ c.if-broken-ne0.false (sym c.if-has.false ∙ read (goal.at.returns-else-has c).After-has (passed (goal.at.returns-else-has c).Else-broken-ne0).1)

@@ -13,8 +13,8 @@ returns-then-session-lt-FIXED_SIZE c =
 
 pub returns-then-not-in_layout : goal.returns-then-not-in_layout
 returns-then-not-in_layout c =
-    question_loose _ _ c.if-session-lt-FIXED_SIZE.false (sym (ap not c.in_layout.ensures) ∙ c.if-not-in_layout.true-raw)
+    question_loose _ _ c.if-session-lt-FIXED_SIZE.false (ap not (sym c.in_layout.ensures ∙ c.if-not-in_layout.true))
 
 pub returns : goal.returns
 returns c =
-    question-none _ (sym c.in_layout.ensures ∙ not-false _ c.if-not-in_layout.false-raw)
+    question-none _ (sym c.in_layout.ensures ∙ c.if-not-in_layout.false)

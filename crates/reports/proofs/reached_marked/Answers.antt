@@ -11,7 +11,7 @@ returns-then-subset c =
 
 pub returns-then-not-has : goal.returns-then-not-has
 returns-then-not-has c =
-    fired-none c.args.links.now c.gathered-marked.result _ c.gathered-marked.ensures c.requires.0 (sym c.has.ensures ∙ not-true _ c.if-not-has.true-raw)
+    fired-none c.args.links.now c.gathered-marked.result _ c.gathered-marked.ensures c.requires.0 (sym c.has.ensures ∙ c.if-not-has.true)
 
 pub returns : goal.returns
 returns c =
