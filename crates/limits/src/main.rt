@@ -2,6 +2,7 @@
 #![tactic(auto)]
 
 use matching::{Answer, Firing};
+use std::io;
 
 // One more of each list than a load may have, and one more word and place than it must have.
 pub const STATES: usize = session::MAX_STATES + 1;
@@ -56,29 +57,23 @@ fn fill_ends(ends: &mut [u32]) {
     }
 }
 
-fn show(label: &[u8], answer: Answer) {
-    io::write_all(1, label);
+// Whether the trigger fires, in a word.
+fn word(firing: Firing) -> &'static str {
+    match firing {
+        Firing::Fires => "fires",
+        Firing::Silent => "silent",
+    }
+}
+
+fn show(rt: &impl Print, label: &str, answer: Answer) -> io::Result<()> {
     match answer {
         Answer::Accepted(report) => {
-            let firing = report.firing;
-            match firing {
-                Firing::Fires => {
-                    io::write_all(1, b": fires, ");
-                }
-                Firing::Silent => {
-                    io::write_all(1, b": silent, ");
-                }
-            }
-            io::print_decimal(1, report.trials as u64);
-            io::write_all(1, b" tried, ");
-            io::print_decimal(1, report.changes as u64);
-            io::write_all(1, b" changed\n");
+            let firing = word(report.firing);
+            let trials = report.trials;
+            let changes = report.changes;
+            println!(rt; "{label}: {firing}, {trials} tried, {changes} changed")
         }
-        Answer::Refused(number) => {
-            io::write_all(1, b": refused, rule ");
-            io::print_decimal(1, number as u64);
-            io::write_all(1, b"\n");
-        }
+        Answer::Refused(number) => println!(rt; "{label}: refused, rule {number}"),
     }
 }
 
@@ -112,7 +107,14 @@ fn least() -> Sizes {
 }
 
 // Loads so many of each list, and shows the answer.
-fn attempt(label: &[u8], sizes: Sizes, links: &[u32], starts: &[u32], ends: &[u32]) {
+fn attempt(
+    rt: &impl Print,
+    label: &str,
+    sizes: Sizes,
+    links: &[u32],
+    starts: &[u32],
+    ends: &[u32],
+) -> io::Result<()> {
     let masks = halves();
     let values = halves();
     let samples = samples();
@@ -127,30 +129,31 @@ fn attempt(label: &[u8], sizes: Sizes, links: &[u32], starts: &[u32], ends: &[u3
     let words = sizes.words;
     let places = sizes.places;
     if STATES < a {
-        return;
+        return Ok(());
     }
     if STATES < b {
-        return;
+        return Ok(());
     }
     if links.len() < c {
-        return;
+        return Ok(());
     }
     if NODES < n {
-        return;
+        return Ok(());
     }
     if starts.len() < d {
-        return;
+        return Ok(());
     }
     if ends.len() < e {
-        return;
+        return Ok(());
     }
     if WORDS < words {
-        return;
+        return Ok(());
     }
     if PLACES < places {
-        return;
+        return Ok(());
     }
     show(
+        rt,
         label,
         matching::load(
             &mut session[..words],
@@ -163,11 +166,11 @@ fn attempt(label: &[u8], sizes: Sizes, links: &[u32], starts: &[u32], ends: &[u3
             &ends[..e],
             &mut changes[..places],
         ),
-    );
+    )
 }
 
 // States without links, over nodes that all of them admit.
-fn plain(label: &[u8], states: usize, nodes: usize) {
+fn plain(rt: &impl Print, label: &str, states: usize, nodes: usize) -> io::Result<()> {
     let links = no_links();
     let starts = edge_ends();
     let ends = edge_ends();
@@ -176,11 +179,11 @@ fn plain(label: &[u8], states: usize, nodes: usize) {
     sizes.values = states;
     sizes.links = states;
     sizes.nodes = nodes;
-    attempt(label, sizes, &links, &starts, &ends);
+    attempt(rt, label, sizes, &links, &starts, &ends)
 }
 
 // So many states, the first with these links, and this set of them inverted.
-fn linked(label: &[u8], states: usize, set: u32, inverted: u32) {
+fn linked(rt: &impl Print, label: &str, states: usize, set: u32, inverted: u32) -> io::Result<()> {
     let mut links = no_links();
     let starts = edge_ends();
     let ends = edge_ends();
@@ -190,11 +193,11 @@ fn linked(label: &[u8], states: usize, set: u32, inverted: u32) {
     sizes.values = states;
     sizes.links = states;
     sizes.inverted = inverted;
-    attempt(label, sizes, &links, &starts, &ends);
+    attempt(rt, label, sizes, &links, &starts, &ends)
 }
 
 // One state linked to itself, over as many nodes as there may be with the two edges (a, b) and (c, d).
-fn joined(label: &[u8], a: u32, b: u32, c: u32, d: u32) {
+fn joined(rt: &impl Print, label: &str, a: u32, b: u32, c: u32, d: u32) -> io::Result<()> {
     let mut links = no_links();
     let mut starts = edge_ends();
     let mut ends = edge_ends();
@@ -207,11 +210,11 @@ fn joined(label: &[u8], a: u32, b: u32, c: u32, d: u32) {
     sizes.nodes = session::MAX_NODES;
     sizes.starts = 2;
     sizes.ends = 2;
-    attempt(label, sizes, &links, &starts, &ends);
+    attempt(rt, label, sizes, &links, &starts, &ends)
 }
 
 // One state linked to itself, over as many nodes as there may be with this many edges, four from each node.
-fn dense(label: &[u8], edges: usize) {
+fn dense(rt: &impl Print, label: &str, edges: usize) -> io::Result<()> {
     let mut links = no_links();
     let mut starts = edge_ends();
     let mut ends = edge_ends();
@@ -222,22 +225,30 @@ fn dense(label: &[u8], edges: usize) {
     sizes.nodes = session::MAX_NODES;
     sizes.starts = edges;
     sizes.ends = edges;
-    attempt(label, sizes, &links, &starts, &ends);
+    attempt(rt, label, sizes, &links, &starts, &ends)
 }
 
 // This much memory and room.
-fn lent(label: &[u8], words: usize, places: usize) {
+fn lent(rt: &impl Print, label: &str, words: usize, places: usize) -> io::Result<()> {
     let links = no_links();
     let starts = edge_ends();
     let ends = edge_ends();
     let mut sizes = least();
     sizes.words = words;
     sizes.places = places;
-    attempt(label, sizes, &links, &starts, &ends);
+    attempt(rt, label, sizes, &links, &starts, &ends)
 }
 
 // So many masks, values, link sets, starts and ends.
-fn partial(label: &[u8], a: usize, b: usize, c: usize, d: usize, e: usize) {
+fn partial(
+    rt: &impl Print,
+    label: &str,
+    a: usize,
+    b: usize,
+    c: usize,
+    d: usize,
+    e: usize,
+) -> io::Result<()> {
     let links = no_links();
     let starts = edge_ends();
     let ends = edge_ends();
@@ -247,87 +258,90 @@ fn partial(label: &[u8], a: usize, b: usize, c: usize, d: usize, e: usize) {
     sizes.links = c;
     sizes.starts = d;
     sizes.ends = e;
-    attempt(label, sizes, &links, &starts, &ends);
+    attempt(rt, label, sizes, &links, &starts, &ends)
 }
 
 // How many states and nodes.
-fn numbers() {
-    plain(b"no states", 0, 1);
-    plain(b"1 state, no nodes", 1, 0);
-    plain(b"1 state, 1 node", 1, 1);
-    plain(b"16 states", 16, 1);
-    plain(b"17 states", 17, 1);
-    plain(b"32 states", 32, 1);
-    plain(b"33 states", 33, 1);
-    plain(b"512 nodes", 1, 512);
-    plain(b"513 nodes", 1, 513);
-    plain(b"16 states, 512 nodes", 16, 512);
-    plain(b"32 states, 512 nodes", 32, 512);
-    plain(b"33 states, 513 nodes", 33, 513);
+fn numbers(rt: &impl Print) -> io::Result<()> {
+    plain(rt, "no states", 0, 1)?;
+    plain(rt, "1 state, no nodes", 1, 0)?;
+    plain(rt, "1 state, 1 node", 1, 1)?;
+    plain(rt, "16 states", 16, 1)?;
+    plain(rt, "17 states", 17, 1)?;
+    plain(rt, "32 states", 32, 1)?;
+    plain(rt, "33 states", 33, 1)?;
+    plain(rt, "512 nodes", 1, 512)?;
+    plain(rt, "513 nodes", 1, 513)?;
+    plain(rt, "16 states, 512 nodes", 16, 512)?;
+    plain(rt, "32 states, 512 nodes", 32, 512)?;
+    plain(rt, "33 states, 513 nodes", 33, 513)
 }
 
 // Links and inversions of states that are there, and of others.
-fn sets() {
-    linked(b"3 states, a link to state 3", 3, 4, 0);
-    linked(b"3 states, a link to state 4", 3, 8, 0);
-    linked(b"3 states, a link to state 32", 3, 2147483648, 0);
-    linked(b"3 states, state 3 inverted", 3, 0, 4);
-    linked(b"3 states, state 4 inverted", 3, 0, 8);
-    linked(b"3 states, state 32 inverted", 3, 0, 2147483648);
-    linked(b"3 states, state 4 inverted and linked to", 3, 8, 8);
-    linked(b"16 states, a link to state 16", 16, 1 << 15, 0);
-    linked(b"16 states, a link to state 17", 16, 1 << 16, 0);
-    linked(b"17 states, a link to state 17", 17, 1 << 16, 0);
-    linked(b"17 states, a link to state 18", 17, 1 << 17, 0);
-    linked(b"31 states, a link to state 32", 31, 1 << 31, 0);
-    linked(b"32 states, a link to state 32", 32, 1 << 31, 0);
-    linked(b"32 states, links to all", 32, 4294967295, 0);
-    linked(b"16 states, state 17 inverted", 16, 0, 1 << 16);
-    linked(b"32 states, all inverted", 32, 0, 4294967295);
-    linked(b"33 states, a link to state 32", 33, 1 << 31, 0);
+fn sets(rt: &impl Print) -> io::Result<()> {
+    linked(rt, "3 states, a link to state 3", 3, 4, 0)?;
+    linked(rt, "3 states, a link to state 4", 3, 8, 0)?;
+    linked(rt, "3 states, a link to state 32", 3, 2147483648, 0)?;
+    linked(rt, "3 states, state 3 inverted", 3, 0, 4)?;
+    linked(rt, "3 states, state 4 inverted", 3, 0, 8)?;
+    linked(rt, "3 states, state 32 inverted", 3, 0, 2147483648)?;
+    linked(rt, "3 states, state 4 inverted and linked to", 3, 8, 8)?;
+    linked(rt, "16 states, a link to state 16", 16, 1 << 15, 0)?;
+    linked(rt, "16 states, a link to state 17", 16, 1 << 16, 0)?;
+    linked(rt, "17 states, a link to state 17", 17, 1 << 16, 0)?;
+    linked(rt, "17 states, a link to state 18", 17, 1 << 17, 0)?;
+    linked(rt, "31 states, a link to state 32", 31, 1 << 31, 0)?;
+    linked(rt, "32 states, a link to state 32", 32, 1 << 31, 0)?;
+    linked(rt, "32 states, links to all", 32, 4294967295, 0)?;
+    linked(rt, "16 states, state 17 inverted", 16, 0, 1 << 16)?;
+    linked(rt, "32 states, all inverted", 32, 0, 4294967295)?;
+    linked(rt, "33 states, a link to state 32", 33, 1 << 31, 0)
 }
 
 // Edges.
-fn graphs() {
-    joined(b"edges (0, 511) and (511, 0)", 0, 511, 511, 0);
-    joined(b"edges (0, 512) and (511, 0)", 0, 512, 511, 0);
-    joined(b"edges (0, 0) and (512, 0)", 0, 0, 512, 0);
-    joined(b"edges (0, 1) and (0, 1)", 0, 1, 0, 1);
-    joined(b"edges (0, 1) and (0, 0)", 0, 1, 0, 0);
-    joined(b"edges (1, 0) and (0, 511)", 1, 0, 0, 511);
-    joined(b"edges (0, 4294967295) and (0, 0)", 0, 4294967295, 0, 0);
-    dense(b"2048 edges", 2048);
-    dense(b"2049 edges", 2049);
+fn graphs(rt: &impl Print) -> io::Result<()> {
+    joined(rt, "edges (0, 511) and (511, 0)", 0, 511, 511, 0)?;
+    joined(rt, "edges (0, 512) and (511, 0)", 0, 512, 511, 0)?;
+    joined(rt, "edges (0, 0) and (512, 0)", 0, 0, 512, 0)?;
+    joined(rt, "edges (0, 1) and (0, 1)", 0, 1, 0, 1)?;
+    joined(rt, "edges (0, 1) and (0, 0)", 0, 1, 0, 0)?;
+    joined(rt, "edges (1, 0) and (0, 511)", 1, 0, 0, 511)?;
+    joined(rt, "edges (0, 4294967295) and (0, 0)", 0, 4294967295, 0, 0)?;
+    dense(rt, "2048 edges", 2048)?;
+    dense(rt, "2049 edges", 2049)
 }
 
 // What is lent, and what is given in part.
-fn lengths() {
+fn lengths(rt: &impl Print) -> io::Result<()> {
     lent(
-        b"memory and room as long as they must be",
+        rt,
+        "memory and room as long as they must be",
         session::FIXED_SIZE,
         session::MAX_CHANGES,
-    );
+    )?;
     lent(
-        b"memory one word short",
+        rt,
+        "memory one word short",
         session::FIXED_SIZE - 1,
         session::MAX_CHANGES,
-    );
+    )?;
     lent(
-        b"room one place short",
+        rt,
+        "room one place short",
         session::FIXED_SIZE,
         session::MAX_CHANGES - 1,
-    );
-    lent(b"room of 8192 places", session::FIXED_SIZE, 8192);
-    partial(b"a mask without value and links", 2, 1, 1, 0, 0);
-    partial(b"a value without mask and links", 1, 2, 1, 0, 0);
-    partial(b"links without mask and value", 1, 1, 2, 0, 0);
-    partial(b"a start without an end", 1, 1, 1, 1, 0);
-    partial(b"an end without a start", 1, 1, 1, 0, 1);
+    )?;
+    lent(rt, "room of 8192 places", session::FIXED_SIZE, 8192)?;
+    partial(rt, "a mask without value and links", 2, 1, 1, 0, 0)?;
+    partial(rt, "a value without mask and links", 1, 2, 1, 0, 0)?;
+    partial(rt, "links without mask and value", 1, 1, 2, 0, 0)?;
+    partial(rt, "a start without an end", 1, 1, 1, 1, 0)?;
+    partial(rt, "an end without a start", 1, 1, 1, 0, 1)
 }
 
-fn main() {
-    numbers();
-    sets();
-    graphs();
-    lengths();
+fn main(rt: HostRuntime) -> io::Result<()> {
+    numbers(&rt)?;
+    sets(&rt)?;
+    graphs(&rt)?;
+    lengths(&rt)
 }
