@@ -1,5 +1,4 @@
 -- `added` meets its contract: | with a power of two adds one member.
-use borrow.Author.Rules.{rules}
 use Rattle.bits.proofs.Words.{also-members}
 use Rattle.bits.proofs.added.Goals as goal
 

@@ -1,6 +1,5 @@
 -- `below` meets its contract: 2 to the n, less one, has all the numbers below n.
 use Prim.Native.Nat.{◌*◌, ◌^◌, ◌%◌}
-use borrow.Author.Rules.{rules}
 use native.Mathlib.Nat.{one-mul}
 use native.Mathlib.Omega.{arith}
 use mathlib.Core.Path.{◌≡◌, refl, ◌∙◌}

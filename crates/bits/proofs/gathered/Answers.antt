@@ -1,10 +1,9 @@
-use Prim.Native.Nat.{◌-◌, ◌≤◌}
 use borrow.Author.Rules.{rules}
 use native.Mathlib.Omega.{arith}
 use mathlib.Core.Path.{◌≡◌, refl}
 use lib.ListN.{length, get_or}
 use Rattle.bits.specs.Word.{members}
-use Rattle.bits.proofs.Gathers.{gathers, gather_none, gather_more}
+use Rattle.bits.proofs.Gathers.{gather_none, gather_more}
 use Rattle.bits.proofs.gathered.Goals as goal
 
 pub loop-k-init : goal.loop-k-init

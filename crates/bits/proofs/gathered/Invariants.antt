@@ -1,11 +1,9 @@
 -- `gathered` meets its contract: after k words `all` has the members of these.
 use Prim.Native.Nat.{◌-◌, ◌≤◌}
-use borrow.Author.Rules.{rules}
-use native.Mathlib.Omega.{arith}
-use mathlib.Core.Path.{◌≡◌, refl}
+use mathlib.Core.Path.{◌≡◌}
 use lib.ListN.{length, get_or}
 use Rattle.bits.specs.Word.{members}
-use Rattle.bits.proofs.Gathers.{gathers, gather_none, gather_more}
+use Rattle.bits.proofs.Gathers.{gathers}
 use Rattle.bits.proofs.gathered.Given as goal
 
 abbrev pub invariant-loop-k : goal.invariant-loop-k

@@ -1,5 +1,4 @@
 -- `kept_below` meets its contract: the word under a mask of n bits.
-use borrow.Author.Rules.{rules}
 use mathlib.Core.Path.{ap, ◌∙◌}
 use lib.Bits.{bit_and, and_mask}
 use Rattle.bits.proofs.kept_below.Goals as goal

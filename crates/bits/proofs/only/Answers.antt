@@ -1,5 +1,4 @@
 -- `only` meets its contract: 1 << i does not wrap.
-use borrow.Author.Rules.{rules}
 use native.Mathlib.Nat.{one-mul}
 use native.Mathlib.Omega.{arith}
 use mathlib.Core.Path.{◌∙◌}

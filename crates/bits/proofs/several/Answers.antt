@@ -1,6 +1,5 @@
 -- The empty word has no bit in common with another.
 use mathlib.Core.Path.{refl}
-use borrow.Author.Rules.{rules}
 use Rattle.bits.proofs.several.Goals as goal
 
 pub returns : goal.returns

@@ -1,5 +1,4 @@
 -- `without_lowest` meets its contract: & with the word before it takes the lowest member out.
-use borrow.Author.Rules.{rules}
 use Rattle.bits.proofs.Counts.{without-lowest}
 use Rattle.bits.proofs.without_lowest.Goals as goal
 
