@@ -61,7 +61,8 @@ pub fn turned_states(masks: &[u32], inverted: u32) -> u32
     let mut wanting = 0;
     let mut u = 0;
     while u < masks.len() {
-        if masks[u] != 0 {
+        let heeded = masks[u] != 0;
+        if heeded {
             wanting = bits::added(wanting, u as u32);
         }
         u += 1;

@@ -10,7 +10,7 @@ use Rattle.bits.proofs.Words.{zero-members}
 use Rattle.simulation.proofs.Gains.{gained-none, gained-more, gained_pass}
 use Rattle.pair_tables.proofs.Tabling.{wanting, turned_are, turned_none}
 use Rattle.pair_tables.proofs.turned_states.Goals as goal
-use Rattle.pair_tables.proofs.turned_states.Goals.{then-masks-u-ne0, else-masks-u-ne0}
+use Rattle.pair_tables.proofs.turned_states.Goals.{then-heeded, else-heeded}
 
 pub returns-then-inverted-eq0 : goal.returns-then-inverted-eq0
 returns-then-inverted-eq0 c =
@@ -26,13 +26,13 @@ loop-u-preserved c =
     let l = c.loop-u in
     let mask = get_or masks l.u 0 in (
       search rules,
-      elim c.if-masks-u-ne0.branch [
-        | then-masks-u-ne0 w ↦
+      elim c.if-heeded.branch [
+        | then-heeded w ↦
             ap members w.wanting-is
-            ∙ gained-more none (wanting masks) l.u l.invariant.1 (ap not (ne_eqb mask 0 w.if-masks-u-ne0.true)) w.added-wanting.ensures
-        | else-masks-u-ne0 w ↦
+            ∙ gained-more none (wanting masks) l.u l.invariant.1 (ap not (ne_eqb mask 0 w.if-heeded.true)) w.added-wanting.ensures
+        | else-heeded w ↦
             ap members w.wanting-is
-            ∙ gained_pass none (wanting masks) l.u l.invariant.1 (ap not (eq-eqb mask 0 w.if-masks-u-ne0.false))
+            ∙ gained_pass none (wanting masks) l.u l.invariant.1 (ap not (eq-eqb mask 0 w.if-heeded.false))
       ],
     )
 
