@@ -31,7 +31,7 @@ shape_of-waiting-then-left-eq0 c =
 
 pub returns-then-left-eq0 : goal.returns-then-left-eq0
 returns-then-left-eq0 c =
-    (c.loop-v.invariant, λ some. absurd (some (eqb-true _ _ c.if-bare.true-raw)))
+    (c.loop-v.invariant, λ some. absurd (some c.if-bare.true))
 
 pub turn-requires : goal.turn-requires
 turn-requires c =

@@ -43,8 +43,9 @@ loop-k-preserved c =
           alone-more a.session.now i a.start a.word k (c.loop-k.invariant.1 i)
           (λ at-end.
           elim c.if-edge-start.branch [
-            then-edge-start+else-fresh_among w ↦ subst (λ (es : List ℕ). fresh_among a.session.now a.word (get_or es k 0 / max_nodes) ≡ false) is (sym w.fresh_among.ensures ∙ w.if-fresh_among.false)
-          | else-edge-start w ↦ absurd (w.if-edge-start.false (subst (λ (es : List ℕ). get_or es k 0 % max_nodes ≡ a.start) (sym is) at-end)) ]),
+            | then-edge-start+else-fresh_among w ↦ subst (λ (es : List ℕ). fresh_among a.session.now a.word (get_or es k 0 / max_nodes) ≡ false) is (sym w.fresh_among.ensures ∙ w.if-fresh_among.false)
+            | else-edge-start w ↦ absurd (w.if-edge-start.false (subst (λ (es : List ℕ). get_or es k 0 % max_nodes ≡ a.start) (sym is) at-end))
+          ]),
     )
 
 pub returns : goal.returns
