@@ -1,8 +1,7 @@
-use Prim.Native.Nat.{◌-◌}
 use borrow.Author.Rules.{rules}
 use native.Mathlib.Omega.{arith}
 use Rattle.edge_indexes.proofs.Incoming.{chained_less}
-use Rattle.growth.proofs.Spreading.{Spreading, spreading_start, spreading_more, spreading_done, starts-inside}
+use Rattle.growth.proofs.Spreading.{spreading_start, spreading_more, spreading_done, starts-inside}
 use Rattle.growth.proofs.spread.Goals as goal
 
 pub calling-able-requires : goal.calling-able-requires
