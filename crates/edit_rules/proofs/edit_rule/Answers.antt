@@ -1,5 +1,4 @@
 -- What breaks no rule that both edits share is tested by the rules of its own.
-use borrow.Author.Rules.{rules}
 use native.Mathlib.Omega.{arith}
 use mathlib.Core.Bool.{not}
 use mathlib.Core.Path.{◌≡◌, ap, sym, ◌∙◌}

@@ -1,9 +1,9 @@
-use Prim.Native.Nat.{ℕ, ◌-◌, ◌/◌, ◌%◌, ◌<◌, ◌≤◌}
-use Rattle.trials.proofs.Lonely.{alone_to, alone-none, alone-more, alone-found, alone-all}
+use Prim.Native.Nat.{ℕ, ◌/◌, ◌%◌, ◌<◌}
+use Rattle.trials.proofs.Lonely.{alone-none, alone-more, alone-found, alone-all}
 use Rattle.editing.specs.Steps.{fresh_among}
 use Rattle.refinement.proofs.Systems.{held_sound}
 use Rattle.session.proofs.Decoded.{layout-facts}
-use Rattle.session.specs.Layout.{trigger_of, in_layout}
+use Rattle.session.specs.Layout.{trigger_of}
 use borrow.Author.Rules.{rules}
 use lib.ListN.{length, get_or}
 use mathlib.Core.Bool.{true, false}
