@@ -10,7 +10,6 @@ use Rattle.pair_tables.proofs.Tabling.{marked-none}
 use Rattle.pair_tables.proofs.Zeros.{zeros}
 use Rattle.session_parts.proofs.Parts.{marks-long, held-marks}
 use Rattle.editing.specs.Steps.{RefinedAt}
-use borrow.Author.Rules.{rules}
 use Rattle.session.specs.Limits.{max_nodes}
 use Rattle.deletion.proofs.cease.Goals as goal
 use Rattle.deletion.proofs.cease.Goals.{Start}

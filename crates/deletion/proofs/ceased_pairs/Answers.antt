@@ -1,5 +1,4 @@
 -- The table takes its pairs away from the marks, and what is left is counted.
-use borrow.Author.Rules.{rules}
 use native.Mathlib.Omega.{arith}
 use mathlib.Core.Path.{◌≡◌, ◌∙◌, ap}
 use lib.ListN.{length, take, drop}

@@ -13,7 +13,6 @@ use Rattle.session_parts.proofs.Parts.{marks-long}
 use Rattle.editing.specs.Steps.{Ceased}
 use Rattle.editing.proofs.Moved.{saved_calm, saved-before}
 use Rattle.deletion.proofs.Deleted.{deleted_layout, deleted_start, deleted_same, ceased-inside, deleted_stored}
-use borrow.Author.Rules.{rules}
 use Rattle.deletion.proofs.delete_edit.Goals as goal
 use Rattle.deletion.proofs.delete_edit.Goals.{After-cease, After-copy_words, After-remove_edge}
 

@@ -12,7 +12,6 @@ use Rattle.edge_indexes.specs.Indexes.{edges_from}
 use Rattle.refinement.proofs.Systems.{held_sound}
 use Rattle.session_parts.proofs.Parts.{marks-long}
 use Rattle.deletion.proofs.SteadyNodes.{steady_is, unmet_none}
-use borrow.Author.Rules.{rules}
 use Rattle.session.specs.Limits.{max_nodes}
 use Rattle.deletion.proofs.steady.Goals as goal
 use Rattle.deletion.proofs.steady.Goals.{After-marks_of-marks, Start}

@@ -1,5 +1,4 @@
 -- Each kind by its own function.
-use borrow.Author.Rules.{rules}
 use Rattle.edit_calls.proofs.edit_proper.Goals as goal
 
 pub insert_edit-requires : goal.insert_edit-requires

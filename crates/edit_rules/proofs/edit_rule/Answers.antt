@@ -1,7 +1,7 @@
 -- What breaks no rule that both edits share is tested by the rules of its own.
-use borrow.Author.Rules.{rules}
 use native.Mathlib.Omega.{arith}
-use mathlib.Core.Path.{◌≡◌, sym, ◌∙◌}
+use mathlib.Core.Bool.{not}
+use mathlib.Core.Path.{◌≡◌, ap, sym, ◌∙◌}
 use Rattle.session.proofs.Decoded.{layout_limits}
 use Rattle.promises.specs.Rules.{verdict}
 use Rattle.editing.specs.Steps.{kind_of, shared_rules}
@@ -46,9 +46,9 @@ returns-then-inserts c =
 pub returns-then-not-present : goal.returns-then-not-present
 returns-then-not-present c =
     let a = c.args in
-    rw c.if-inserts.false (delete_absent a.session.now a.room a.start a.end (passed (goal.at.returns-then-not-present c).Else-broken-ne0) _ c.edge_in-present.ensures c.if-not-present.true-raw)
+    rw c.if-inserts.false (delete_absent a.session.now a.room a.start a.end (passed (goal.at.returns-then-not-present c).Else-broken-ne0) _ c.edge_in-present.ensures (ap not c.if-not-present.true))
 
 pub returns : goal.returns
 returns c =
     let a = c.args in
-    rw c.if-inserts.false (delete_none a.session.now a.room a.start a.end (passed (goal.at.returns c).Else-broken-ne0) _ c.edge_in-present.ensures c.if-not-present.false-raw)
+    rw c.if-inserts.false (delete_none a.session.now a.room a.start a.end (passed (goal.at.returns c).Else-broken-ne0) _ c.edge_in-present.ensures (ap not c.if-not-present.false))

@@ -1,6 +1,4 @@
 -- The rules are tested in their sequence.
-use borrow.Author.Rules.{rules}
-use borrow.Author.Tests.{not-false}
 use native.Mathlib.Omega.{arith}
 use mathlib.Core.Path.{◌≡◌, ap, sym, ◌∙◌}
 use mathlib.Core.Bool.{true, not}
@@ -11,7 +9,7 @@ use Rattle.edit_rules.proofs.shared_rule.Goals as goal
 use Rattle.edit_rules.proofs.shared_rule.Goals.{Else-not-in_layout}
 
 held : (c : Else-not-in_layout) → in_layout c.args.session.now ≡ true
-held c = sym c.in_layout.ensures ∙ not-false _ c.if-not-in_layout.false-raw
+held c = sym c.in_layout.ensures ∙ c.if-not-in_layout.false
 
 pub returns-then-too_short : goal.returns-then-too_short
 returns-then-too_short c =
@@ -21,7 +19,7 @@ pub returns-then-not-in_layout : goal.returns-then-not-in_layout
 returns-then-not-in_layout c =
     let a = c.args in
     shared_loose a.session.now a.room a.start a.end _ c.too_short.ensures c.if-too_short.false
-    (sym (ap not c.in_layout.ensures) ∙ c.if-not-in_layout.true-raw)
+    (ap not (sym c.in_layout.ensures ∙ c.if-not-in_layout.true))
 
 pub bounds-session-1 : goal.bounds-session-1
 bounds-session-1 c =

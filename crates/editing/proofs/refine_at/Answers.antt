@@ -5,7 +5,6 @@ use lib.ListN.{replicate}
 use Rattle.session.proofs.Decoded.{Bounded, layout_limits, layout-facts}
 use Rattle.refinement.proofs.Systems.{held_sound}
 use Rattle.editing.proofs.Refining.{start-waits, refined-at}
-use borrow.Author.Rules.{rules}
 use Rattle.worklist.specs.Waiting.{waiting_words}
 use Rattle.editing.proofs.refine_at.Goals as goal
 use Rattle.editing.proofs.refine_at.Goals.{Start}

@@ -1,9 +1,8 @@
-use borrow.Author.Rules.{rules}
 use native.Mathlib.Omega.{arith}
 use mathlib.Core.Path.{refl, ◌∙◌}
 use Rattle.pair_tables.proofs.Zeros.{zeros}
 use Rattle.refinement.proofs.Turns.{sound_wider}
-use Rattle.growth.proofs.Growing.{Growing, left, growing_start, growing_more, growing_less, growing_end}
+use Rattle.growth.proofs.Growing.{growing_start, growing_more, growing_less, growing_end}
 use Rattle.bits.specs.Word.{set_bits}
 use Rattle.growth.proofs.grow.Goals as goal
 

@@ -1,11 +1,5 @@
 -- `grow` meets its contract: the table stays within the trial set, and each look leaves less to do.
-use borrow.Author.Rules.{rules}
-use native.Mathlib.Omega.{arith}
-use mathlib.Core.Path.{refl, ◌∙◌}
-use Rattle.pair_tables.proofs.Zeros.{zeros}
-use Rattle.refinement.proofs.Turns.{sound_wider}
-use Rattle.growth.proofs.Growing.{Growing, left, growing_start, growing_more, growing_less, growing_end}
-use Rattle.bits.specs.Word.{set_bits}
+use Rattle.growth.proofs.Growing.{Growing, left}
 use Rattle.growth.proofs.grow.Given as goal
 
 abbrev pub invariant-loop-v : goal.invariant-loop-v

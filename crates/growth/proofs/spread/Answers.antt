@@ -1,27 +1,18 @@
-use Prim.Native.Nat.{◌-◌}
 use borrow.Author.Rules.{rules}
 use native.Mathlib.Omega.{arith}
 use Rattle.edge_indexes.proofs.Incoming.{chained_less}
-use Rattle.growth.proofs.Spreading.{Spreading, spreading_start, spreading_more, spreading_done, starts-inside}
+use Rattle.growth.proofs.Spreading.{spreading_start, spreading_more, spreading_done, starts-inside}
 use Rattle.growth.proofs.spread.Goals as goal
 
 pub calling-able-requires : goal.calling-able-requires
 calling-able-requires c =
     (omega (arith, c.requires.sound.0.few_states), λ some. c.requires.sound.2)
 
-pub overflow_cast-next : goal.overflow_cast-next
-overflow_cast-next c =
-    omega (arith, c.shared_slice_known-7-1.given c.args.v)
-
 pub loop-next-init : goal.loop-next-init
 loop-next-init c =
     let out = c.take_out in
     spreading_start c.requires.sound.1 c.args.fresh.now c.args.v c.calling-able.result c.args.trials.now out.new.waiting
     (search rules) (search rules) out.ensures.0
-
-pub overflow_cast-start : goal.overflow_cast-start
-overflow_cast-start c =
-    omega (arith, c.shared_slice_known-in-loop-next-1.given (c.loop-next.next - 1))
 
 pub offset_bounds-fresh-start : goal.offset_bounds-fresh-start
 offset_bounds-fresh-start c =
@@ -34,10 +25,6 @@ bounds-fresh-start c =
 pub try_at-requires : goal.try_at-requires
 try_at-requires c =
     (search rules, search rules, starts-inside c.requires.sound.0 c.loop-next.invariant.chain c.loop-next-test.true)
-
-pub overflow_cast-next-in-loop-next : goal.overflow_cast-next-in-loop-next
-overflow_cast-next-in-loop-next c =
-    omega (arith, c.shared_slice_known-in-loop-next-3-1.given (c.loop-next.next - 1))
 
 pub loop-next-smaller : goal.loop-next-smaller
 loop-next-smaller c =

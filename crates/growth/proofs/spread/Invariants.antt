@@ -1,9 +1,5 @@
 -- `spread` meets its contract: `next` edges are left, and the predecessors by later edges have been tried.
-use Prim.Native.Nat.{◌-◌}
-use borrow.Author.Rules.{rules}
-use native.Mathlib.Omega.{arith}
-use Rattle.edge_indexes.proofs.Incoming.{chained_less}
-use Rattle.growth.proofs.Spreading.{Spreading, spreading_start, spreading_more, spreading_done, starts-inside}
+use Rattle.growth.proofs.Spreading.{Spreading}
 use Rattle.growth.proofs.spread.Given as goal
 
 abbrev pub invariant-loop-next : goal.invariant-loop-next

@@ -2,7 +2,6 @@
 use Prim.Native.Nat.{ℕ, ◌<◌}
 use mathlib.Core.Path.{◌≡◌, refl, sym, ◌∙◌, ap}
 use mathlib.Core.Bool.{true, ◌||◌}
-use mathlib.Core.List.{List}
 use lib.ListN.{length}
 use Rattle.simulation.specs.Sets.{Set}
 use Rattle.bits.specs.Word.{members}
@@ -18,7 +17,6 @@ use Rattle.session_parts.proofs.Parts.{marks-long, held-marks}
 use Rattle.editing.specs.Steps.{Begun}
 use Rattle.editing.proofs.Moved.{left-length, saved_calm, saved-before}
 use Rattle.insertion.proofs.Inserted.{in_layout_lem, start_near, end_near, inserted_same, stored_inside, inserted_stored}
-use borrow.Author.Rules.{rules}
 use Rattle.session.specs.Limits.{max_nodes}
 use Rattle.insertion.proofs.insert_edit.Goals as goal
 use Rattle.insertion.proofs.insert_edit.Goals.{After-insert_edge, After-try_out-trials, After-put_together}

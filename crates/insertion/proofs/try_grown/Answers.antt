@@ -6,7 +6,6 @@ use Rattle.session.proofs.Decoded.{Bounded, LayoutFacts, layout_limits, layout-f
 use Rattle.pair_tables.proofs.Zeros.{zeros}
 use Rattle.promises.specs.Standing.{trial_set}
 use Rattle.editing.specs.Steps.{Holds}
-use borrow.Author.Rules.{rules}
 use Rattle.session.specs.Limits.{max_nodes}
 use Rattle.insertion.proofs.try_grown.Goals as goal
 use Rattle.insertion.proofs.try_grown.Goals.{After-try_pairs, Start}

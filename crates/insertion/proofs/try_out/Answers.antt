@@ -13,7 +13,6 @@ use Rattle.pair_tables.proofs.Tabling.{pairs_single}
 use Rattle.promises.specs.Standing.{trial_set}
 use Rattle.editing.specs.Steps.{Holds, seeds_of}
 use Rattle.trials.proofs.Lonely.{alone-held}
-use borrow.Author.Rules.{rules}
 use Rattle.insertion.proofs.try_out.Goals as goal
 use Rattle.insertion.proofs.try_out.Goals.{Start, Else-not-alone}
 

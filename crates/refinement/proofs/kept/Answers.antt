@@ -2,7 +2,6 @@
 use Rattle.bits.specs.Word.{members}
 use Rattle.refinement.proofs.Support.{kept-without, kept_whole}
 use Rattle.simulation.specs.Sets.{minus}
-use borrow.Author.Rules.{rules}
 use mathlib.Core.Path.{ap, ◌∙◌}
 use native.Mathlib.Omega.{arith}
 use Rattle.refinement.proofs.kept.Goals as goal

@@ -2,7 +2,6 @@
 use Prim.Native.Nat.{ℕ}
 use Rattle.refinement.specs.Refining.{kept_of}
 use Rattle.simulation.specs.Sets.{Set}
-use borrow.Author.Rules.{rules}
 use lib.ListN.{get_or}
 use mathlib.Core.List.{List}
 use mathlib.Core.Path.{ap, ◌∙◌}

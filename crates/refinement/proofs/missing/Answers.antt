@@ -1,7 +1,4 @@
-use Prim.Native.Nat.{◌-◌, ◌≤◌}
-use Rattle.refinement.proofs.Support.{Searching, searching_none, searching_more, searching_end, searching_done}
-use borrow.Author.Rules.{rules}
-use lib.ListN.{length}
+use Rattle.refinement.proofs.Support.{searching_none, searching_more, searching_end, searching_done}
 use native.Mathlib.Omega.{arith}
 use Rattle.refinement.proofs.missing.Goals as goal
 

@@ -1,9 +1,7 @@
 -- `missing` meets its contract: before the edge k, the links that the edges below it carry are struck off.
 use Prim.Native.Nat.{◌-◌, ◌≤◌}
-use Rattle.refinement.proofs.Support.{Searching, searching_none, searching_more, searching_end, searching_done}
-use borrow.Author.Rules.{rules}
+use Rattle.refinement.proofs.Support.{Searching}
 use lib.ListN.{length}
-use native.Mathlib.Omega.{arith}
 use Rattle.refinement.proofs.missing.Given as goal
 
 abbrev pub invariant-loop-k : goal.invariant-loop-k

@@ -1,16 +1,9 @@
 use borrow.Author.Rules.{rules}
 use native.Mathlib.Omega.{arith}
-use Prim.Native.Nat.{◌+◌, ◌*◌}
 use mathlib.Core.Path.{◌∙◌}
-use lib.ListN.{length}
-use borrow.Author.Tests.{eqb-true}
-use Rattle.simulation.specs.Sets.{count}
-use Rattle.refinement.specs.Refining.{Sound, Refining, tabled}
-use Rattle.worklist.specs.Waiting.{waits}
+use Rattle.refinement.specs.Refining.{Sound}
 use Rattle.refinement.proofs.Settling.{refining_start, refining_turn, refining_less}
 use Rattle.refinement.proofs.Turns.{sound_wider}
-use Rattle.session.specs.Limits.{max_nodes}
-use Rattle.edge_indexes.specs.Indexes.{starts_size}
 use Rattle.refinement.proofs.refine.Goals as goal
 use Rattle.refinement.proofs.refine.Goals.{At-loop-v}
 
@@ -31,7 +24,7 @@ shape_of-waiting-then-left-eq0 c =
 
 pub returns-then-left-eq0 : goal.returns-then-left-eq0
 returns-then-left-eq0 c =
-    (c.loop-v.invariant, λ some. absurd (some (eqb-true _ _ c.if-bare.true-raw)))
+    (c.loop-v.invariant, λ some. absurd (some c.if-bare.true))
 
 pub turn-requires : goal.turn-requires
 turn-requires c =

@@ -1,15 +1,9 @@
 -- Each look keeps how far the refinement has come; without an index the looks are counted down.
-use borrow.Author.Rules.{rules}
-use native.Mathlib.Omega.{arith}
 use Prim.Native.Nat.{◌+◌, ◌*◌}
-use mathlib.Core.Path.{◌∙◌}
 use lib.ListN.{length}
-use borrow.Author.Tests.{eqb-true}
 use Rattle.simulation.specs.Sets.{count}
-use Rattle.refinement.specs.Refining.{Sound, Refining, tabled}
+use Rattle.refinement.specs.Refining.{Refining, tabled}
 use Rattle.worklist.specs.Waiting.{waits}
-use Rattle.refinement.proofs.Settling.{refining_start, refining_turn, refining_less}
-use Rattle.refinement.proofs.Turns.{sound_wider}
 use Rattle.session.specs.Limits.{max_nodes}
 use Rattle.edge_indexes.specs.Indexes.{starts_size}
 use Rattle.refinement.proofs.refine.Given as goal

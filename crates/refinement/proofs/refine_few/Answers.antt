@@ -1,7 +1,6 @@
 -- Without an index the looks are few; where nodes wait after them, the refinement goes on with one.
 use mathlib.Core.Path.{refl}
 use Rattle.refinement.proofs.Settling.{refining_end, refining_then}
-use borrow.Author.Rules.{rules}
 use Rattle.refinement.proofs.refine_few.Goals as goal
 
 pub refine-v-requires : goal.refine-v-requires

@@ -4,7 +4,6 @@ use mathlib.Core.Path.{refl}
 use Rattle.pair_tables.proofs.Zeros.{zeros}
 use Rattle.refinement.proofs.Turns.{sound_below}
 use Rattle.refinement.proofs.Settling.{refining_end}
-use borrow.Author.Rules.{rules}
 use Rattle.session.specs.Limits.{max_nodes}
 use Rattle.bits.specs.Word.{set_bits}
 use Rattle.edge_indexes.specs.Indexes.{starts_size}

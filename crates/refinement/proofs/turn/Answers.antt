@@ -1,6 +1,5 @@
 -- The node is taken out, and its word kept or cleared: the two laws of `Turns` make what is ensured.
 use Rattle.refinement.proofs.Turns.{sound_below, turned_cleared, turned_stayed}
-use borrow.Author.Rules.{rules}
 use lib.ListN.{length-set}
 use mathlib.Core.Path.{sym, ◌∙◌}
 use native.Mathlib.Omega.{arith}

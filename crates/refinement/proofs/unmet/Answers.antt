@@ -2,7 +2,6 @@
 use Rattle.bits.proofs.Words.{and-members}
 use Rattle.refinement.specs.Refining.{carried}
 use Rattle.simulation.specs.Sets.{Set}
-use borrow.Author.Rules.{rules}
 use mathlib.Core.Bool.{Bool, not, ◌&&◌}
 use mathlib.Core.Path.{ap, ap₂, fun_ext, ◌∙◌}
 use Rattle.refinement.proofs.unmet.Goals as goal

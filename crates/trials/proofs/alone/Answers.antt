@@ -1,9 +1,9 @@
-use Prim.Native.Nat.{ℕ, ◌-◌, ◌/◌, ◌%◌, ◌<◌, ◌≤◌}
-use Rattle.trials.proofs.Lonely.{alone_to, alone-none, alone-more, alone-found, alone-all}
+use Prim.Native.Nat.{ℕ, ◌/◌, ◌%◌, ◌<◌}
+use Rattle.trials.proofs.Lonely.{alone-none, alone-more, alone-found, alone-all}
 use Rattle.editing.specs.Steps.{fresh_among}
 use Rattle.refinement.proofs.Systems.{held_sound}
 use Rattle.session.proofs.Decoded.{layout-facts}
-use Rattle.session.specs.Layout.{trigger_of, in_layout}
+use Rattle.session.specs.Layout.{trigger_of}
 use borrow.Author.Rules.{rules}
 use lib.ListN.{length, get_or}
 use mathlib.Core.Bool.{true, false}
@@ -43,8 +43,9 @@ loop-k-preserved c =
           alone-more a.session.now i a.start a.word k (c.loop-k.invariant.1 i)
           (λ at-end.
           elim c.if-edge-start.branch [
-            then-edge-start+else-fresh_among w ↦ subst (λ (es : List ℕ). fresh_among a.session.now a.word (get_or es k 0 / max_nodes) ≡ false) is (sym w.fresh_among.ensures ∙ w.if-fresh_among.false)
-          | else-edge-start w ↦ absurd (w.if-edge-start.false (subst (λ (es : List ℕ). get_or es k 0 % max_nodes ≡ a.start) (sym is) at-end)) ]),
+            | then-edge-start+else-fresh_among w ↦ subst (λ (es : List ℕ). fresh_among a.session.now a.word (get_or es k 0 / max_nodes) ≡ false) is (sym w.fresh_among.ensures ∙ w.if-fresh_among.false)
+            | else-edge-start w ↦ absurd (w.if-edge-start.false (subst (λ (es : List ℕ). get_or es k 0 % max_nodes ≡ a.start) (sym is) at-end))
+          ]),
     )
 
 pub returns : goal.returns

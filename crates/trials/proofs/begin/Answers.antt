@@ -14,7 +14,6 @@ use Rattle.refinement.proofs.Settling.{refining_end}
 use Rattle.refinement.proofs.Systems.{held_sound}
 use Rattle.session_parts.proofs.Parts.{marks-long}
 use Rattle.editing.proofs.Refining.{trials-refined}
-use borrow.Author.Rules.{rules}
 use Rattle.bits.specs.Word.{set_bits}
 use Rattle.edge_indexes.specs.Indexes.{starts_size}
 use Rattle.trials.proofs.begin.Goals as goal

@@ -10,7 +10,6 @@ use Rattle.session.specs.Trigger.{states}
 use Rattle.session.specs.Layout.{trigger_of}
 use Rattle.pair_tables.specs.Tables.{marked}
 use Rattle.session_parts.proofs.Parts.{marks-long, held-marks}
-use borrow.Author.Rules.{rules}
 use Rattle.trials.proofs.begin_at.Goals as goal
 
 pub refine_at-requires : goal.refine_at-requires

@@ -1,5 +1,4 @@
 -- The states that admit the node, less its marks.
-use borrow.Author.Rules.{rules}
 use native.Mathlib.Omega.{arith}
 use mathlib.Core.Path.{◌∙◌}
 use Rattle.session.proofs.Decoded.{layout-facts}

@@ -1,5 +1,4 @@
 -- What is admitted, less the marks.
-use borrow.Author.Rules.{rules}
 use mathlib.Core.Path.{sym, ◌∙◌, ap}
 use lib.ListN.{length}
 use Rattle.session_parts.proofs.Parts.{marks-long}

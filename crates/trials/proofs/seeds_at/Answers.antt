@@ -1,5 +1,4 @@
 -- The states that admit the edge's ends, and the links between them.
-use borrow.Author.Rules.{rules}
 use native.Mathlib.Omega.{arith}
 use Rattle.session.proofs.Decoded.{layout-facts}
 use Rattle.session_parts.proofs.Parts.{marks-long}

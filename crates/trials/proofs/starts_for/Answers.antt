@@ -1,6 +1,5 @@
 -- The index, where it is built, fills the whole table.
 use Rattle.edge_indexes.specs.Indexes.{Started, starts_size}
-use borrow.Author.Rules.{rules}
 use lib.Seq.{take_all}
 use mathlib.Core.Path.{sym, subst}
 use native.Mathlib.Omega.{arith}

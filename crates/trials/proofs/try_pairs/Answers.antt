@@ -1,5 +1,4 @@
 -- The seeds are fresh, and the trial set is grown from them.
-use borrow.Author.Rules.{rules}
 use native.Mathlib.Omega.{arith}
 use mathlib.Core.Path.{refl, ◌∙◌}
 use lib.ListN.{length-set, replicate}
