@@ -30,7 +30,7 @@ loop-k-preserved c =
     listing_more changed change_size changed-long c.args.list.now c.args.out.now c.args.at (omega (arith, c.requires)) l.out l.next l.k (pos 0)
     p.new.out p.result l.invariant (omega arith)
     (subst (λ (z : ℤ). Placed l.out l.next (changed z) p.new.out p.result)
-    (to_z-of_z w32 (get_or c.args.list.now l.k (pos 0)) record { sfits = c.put_change-arg-in-loop-k-1.given }) p.ensures)
+    (to_z-of_z w32 (get_or c.args.list.now l.k (pos 0)) (search rules)) p.ensures)
 
 pub shape_of-out : goal.shape_of-out
 shape_of-out c =

@@ -11,10 +11,6 @@ pub loop-k-init : goal.loop-k-init
 loop-k-init c =
     listing_start (digits 2) 2 (digits_long 2) c.args.states.now c.args.out.now c.args.at (omega (arith, c.requires))
 
-pub overflow_cast-states : goal.overflow_cast-states
-overflow_cast-states c =
-    record { fits = omega (arith, c.shared_slice_known-in-loop-k-1.given c.loop-k.k) }
-
 pub put_digits-next-requires : goal.put_digits-next-requires
 put_digits-next-requires c =
     let l = c.loop-k in
