@@ -259,37 +259,31 @@ pub leads_then : (m : Memory) (begun a o : List ℕ) (m' : Memory) (begun' b p :
 leads_then m begun a o m' begun' b p m'' begun'' l k more rest c =
     rw (append_assoc a b more, append_assoc o p rest) (l (b ++ more) (p ++ rest) (k more rest c))
 
--- in a block, of which the bytes before the place `at` are taken
-abbrev pub Within : Memory → List ℕ → List ℕ → Memory → List ℕ → ℕ → Type 0
-Within m begun bytes m' begun' at =
-    (out : List ℕ) × ((more rest : List ℕ) → InputCalls m' begun' (drop at bytes ++ more) rest → InputCalls m begun (bytes ++ more) (out ++ rest))
+-- in a block, of which the bytes before the place `at` are taken, and answered by `out`
+abbrev pub Within : Memory → List ℕ → List ℕ → List ℕ → Memory → List ℕ → ℕ → Type 0
+Within m begun bytes out m' begun' at =
+    (more rest : List ℕ) → InputCalls m' begun' (drop at bytes ++ more) rest → InputCalls m begun (bytes ++ more) (out ++ rest)
 
-pub within-start : (m : Memory) (begun bytes : List ℕ) → Within m begun bytes m begun 0
-within-start m begun bytes = ([], λ more rest c. c)
+pub within-start : (m : Memory) (begun bytes : List ℕ) → Within m begun bytes [] m begun 0
+within-start m begun bytes more rest c = c
 
-pub within_step : (m : Memory) (begun bytes : List ℕ) (m₁ : Memory) (front : List ℕ) (used at : ℕ) (r : Progress) (m₂ : Memory) (front' : List ℕ)
-    → Within m begun bytes m₁ (take used front) at → BlockTaken m₁ front used (take (length bytes - at) (drop at bytes)) r m₂ front'
-    → Within m begun bytes m₂ (take r.begun front') (at + r.at)
-within_step m begun bytes m₁ front used at r m₂ front' w t =
+pub within_step : (m : Memory) (begun bytes out : List ℕ) (m₁ : Memory) (front : List ℕ) (used at : ℕ) (r : Progress) (m₂ : Memory) (front' : List ℕ)
+    → Within m begun bytes out m₁ (take used front) at → BlockTaken m₁ front used (take (length bytes - at) (drop at bytes)) r m₂ front'
+    → Within m begun bytes (out ++ take r.written m₂.out) m₂ (take r.begun front') (at + r.at)
+within_step m begun bytes out m₁ front used at r m₂ front' w t more rest c =
     let part : take (length bytes - at) (drop at bytes) ≡ drop at bytes =
     take_all (length bytes - at) (drop at bytes) (omega (arith, length-drop at bytes)) in
     let t' : BlockTaken m₁ front used (drop at bytes) r m₂ front' =
-    subst (λ (b : List ℕ). BlockTaken m₁ front used b r m₂ front') part t in (
-      w.0 ++ take r.written m₂.out,
-      λ more rest c.
-          rw (append_assoc w.0 (take r.written m₂.out) rest)
-          (w.1 more (take r.written m₂.out ++ rest)
-          (block m₁.room m₁.out front used (drop at bytes) more r m₂ front' refl refl t'
-          (subst (λ (b : List ℕ). InputCalls m₂ (take r.begun front') (b ++ more) rest) (sym (drop-drop r.at at bytes)) c))),
-    )
+    subst (λ (b : List ℕ). BlockTaken m₁ front used b r m₂ front') part t in
+    rw (append_assoc out (take r.written m₂.out) rest)
+    (w more (take r.written m₂.out ++ rest)
+    (block m₁.room m₁.out front used (drop at bytes) more r m₂ front' refl refl t'
+    (subst (λ (b : List ℕ). InputCalls m₂ (take r.begun front') (b ++ more) rest) (sym (drop-drop r.at at bytes)) c)))
 
-pub within_end : (m : Memory) (begun bytes : List ℕ) (m' : Memory) (begun' : List ℕ) (at : ℕ) → length bytes ≤ at → Within m begun bytes m' begun' at
-    → (out : List ℕ) × Leads m begun bytes out m' begun'
-within_end m begun bytes m' begun' at l w = (
-  w.0,
-  λ more rest c.
-      w.1 more rest (subst (λ (b : List ℕ). InputCalls m' begun' (b ++ more) rest) (sym (drop_of_length-le bytes l)) c),
-)
+pub within_end : (m : Memory) (begun bytes out : List ℕ) (m' : Memory) (begun' : List ℕ) (at : ℕ) → length bytes ≤ at
+    → Within m begun bytes out m' begun' at → Leads m begun bytes out m' begun'
+within_end m begun bytes out m' begun' at l w more rest c =
+    w more rest (subst (λ (b : List ℕ). InputCalls m' begun' (b ++ more) rest) (sym (drop_of_length-le bytes l)) c)
 
 -- the end ends it
 pub leads-end : (m : Memory) (begun bytes out : List ℕ) (m' : Memory) (front : List ℕ) (used : ℕ) (r : Progress) (m'' : Memory)

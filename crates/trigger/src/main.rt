@@ -3,17 +3,19 @@
 #![tactic(auto)]
 
 ghost use Rattle.std.specs.Prelude.{◌≡◌, ℕ, ◌≤◌, true, List, [], length, take};
+ghost use Rattle.std.specs.Io.KnownBytes.{Appends, Consumes};
 ghost use Rattle.session.specs.Limits.{max_changes};
 ghost use Rattle.promises.specs.Rules.{verdict};
 ghost use Rattle.frames.specs.Lines.{front_size};
 ghost use Rattle.frames.specs.Machine.{memory, output_size};
+ghost use Rattle.frames.specs.Moments.{program};
 ghost use Rattle.frames.specs.Program.{Fresh};
 ghost use Rattle.frames.specs.Blocks.{input_rules, InputCalls, Leads};
 
 use frame_input::{answer_block, answer_end};
 use frame_machine::{COUNTS_SIZE, WORDS_SIZE};
-use libc::{STDIN_FILENO, STDOUT_FILENO};
 use line_gathering::KEPT;
+use std::io::{Read, Write};
 
 // How long the front of a line begun is, and whether all was written so far.
 #[derive(Clone, Copy)]
@@ -22,9 +24,24 @@ struct Begun {
     written: bool,
 }
 
+// Reads the front of a block: how many bytes, none at the input's end, and none where the read fails.
+fn read_front<R: Read>(reader: &mut R, block: &mut [u8]) -> usize
+    ensures bound { result ≤ length block.new }
+    ensures bytes { Consumes (R.remaining reader.old) (R.remaining reader.new) (take result block.new) }
+{
+    reader.read(block).unwrap_or(0)
+}
+
+// Writes all of the bytes, and sends them on at once: whether that was done.
+fn write_out<W: Write>(writer: &mut W, bytes: &[u8]) -> bool
+    ensures { result ≡ true → Appends (W.contents writer.old) (W.contents writer.new) bytes.now }
+{
+    writer.write_all(bytes).is_ok() && writer.flush().is_ok()
+}
+
 // Answers a block, part by part as the output holds the answers. They are written before more is read, so that each reaches the other end
 // of a pipe at once.
-fn answer_whole(
+fn answer_whole<W: Write>(
     counts: &mut [u32],
     words: &mut [u16],
     session: &mut [u32],
@@ -33,9 +50,12 @@ fn answer_whole(
     begun: usize,
     block: &[u8],
     out: &mut [u8],
+    writer: &mut W,
 ) -> Begun
     requires { verdict (input_rules (memory counts.old words.old session.old changes.old out.old) front.old) ≡ 0 }
-    ensures { (verdict (input_rules (memory counts.new words.new session.new changes.new out.new) front.new) ≡ 0) × (result.written ≡ true → (output : List ℕ) × Leads (memory counts.old words.old session.old changes.old out.old) (take begun front.old) block.now output (memory counts.new words.new session.new changes.new out.new) (take result.used front.new)) }
+    ensures unbroken { verdict (input_rules (memory counts.new words.new session.new changes.new out.new) front.new) ≡ 0 }
+    ensures calls { result.written ≡ true → (output : List ℕ) × Leads (memory counts.old words.old session.old changes.old out.old) (take begun front.old) block.now output (memory counts.new words.new session.new changes.new out.new) (take result.used front.new)
+        × Appends (W.contents writer.old) (W.contents writer.new) output }
 {
     let mut at = 0;
     let mut line = begun;
@@ -51,7 +71,7 @@ fn answer_whole(
             &block[at..],
             out,
         );
-        written = io::write_all(STDOUT_FILENO, &out[..progress.written]);
+        written = write_out(writer, &out[..progress.written]);
         line = progress.begun;
         at += progress.at;
     }
@@ -63,7 +83,7 @@ fn answer_whole(
 
 // Answers the blocks of the input, to its end. Nothing says that an input ends: the turns are counted down, from a number that no
 // run uses up.
-fn answer_blocks(
+fn answer_blocks<R: Read, W: Write>(
     counts: &mut [u32],
     words: &mut [u16],
     session: &mut [u32],
@@ -71,9 +91,13 @@ fn answer_blocks(
     front: &mut [u8],
     block: &mut [u8],
     out: &mut [u8],
+    reader: &mut R,
+    writer: &mut W,
 ) -> Begun
     requires { verdict (input_rules (memory counts.old words.old session.old changes.old out.old) front.old) ≡ 0 }
-    ensures { (verdict (input_rules (memory counts.new words.new session.new changes.new out.new) front.new) ≡ 0) × (result.written ≡ true → (bytes : List ℕ) × (output : List ℕ) × Leads (memory counts.old words.old session.old changes.old out.old) [] bytes output (memory counts.new words.new session.new changes.new out.new) (take result.used front.new)) }
+    ensures unbroken { verdict (input_rules (memory counts.new words.new session.new changes.new out.new) front.new) ≡ 0 }
+    ensures calls { result.written ≡ true → (bytes : List ℕ) × (output : List ℕ) × Leads (memory counts.old words.old session.old changes.old out.old) [] bytes output (memory counts.new words.new session.new changes.new out.new) (take result.used front.new)
+        × Consumes (R.remaining reader.old) (R.remaining reader.new) bytes × Appends (W.contents writer.old) (W.contents writer.new) output }
 {
     let mut begun = Begun {
         used: 0,
@@ -81,7 +105,7 @@ fn answer_blocks(
     };
     let mut turns = u64::MAX;
     while turns > 0 && begun.written {
-        let n = io::count(libc::read(STDIN_FILENO, block), block);
+        let n = read_front(reader, block);
         if n == 0 {
             break;
         }
@@ -94,6 +118,7 @@ fn answer_blocks(
             begun.used,
             &block[..n],
             out,
+            writer,
         );
         turns -= 1;
     }
@@ -101,7 +126,7 @@ fn answer_blocks(
 }
 
 // Answers the input and its end, in memory at its start: whether all was written. What could not be written ends the program.
-fn answer_input(
+fn answer_input<R: Read, W: Write>(
     counts: &mut [u32],
     words: &mut [u16],
     session: &mut [u32],
@@ -109,30 +134,40 @@ fn answer_input(
     front: &mut [u8],
     block: &mut [u8],
     out: &mut [u8],
+    reader: &mut R,
+    writer: &mut W,
 ) -> bool
     requires { Fresh (memory counts.old words.old session.old changes.old out.old) × (max_changes ≤ length changes.old) × (output_size ≤ length out.old) × (front_size ≤ length front.old) }
-    ensures { result ≡ true → (bytes : List ℕ) × (output : List ℕ) × InputCalls (memory counts.old words.old session.old changes.old out.old) [] bytes output }
+    ensures { result ≡ true → (bytes : List ℕ) × (output : List ℕ) × InputCalls (memory counts.old words.old session.old changes.old out.old) [] bytes output × (output ≡ program bytes)
+        × Consumes (R.remaining reader.old) (R.remaining reader.new) bytes × Appends (W.contents writer.old) (W.contents writer.new) output }
 {
-    let begun = answer_blocks(counts, words, session, changes, front, block, out);
+    let begun = answer_blocks(
+        counts, words, session, changes, front, block, out, reader, writer,
+    );
     if !begun.written {
         return false;
     }
     let progress = answer_end(counts, words, session, changes, front, begun.used, out);
-    io::write_all(STDOUT_FILENO, &out[..progress.written])
+    write_out(writer, &out[..progress.written])
 }
+
+// The block: as much as is read at once.
+const BLOCK_LENT: usize = 65536;
 
 // The output: more than the longest answer, so that it holds many of them, and writes are few.
 const OUTPUT_LENT: usize = 524288;
 
 // The memory is zero at the start, which is the machine's start too.
-fn main() {
+fn main(rt: HostRuntime) {
     let mut counts = [0u32; COUNTS_SIZE];
     let mut words = [0u16; WORDS_SIZE];
     let mut session = [0u32; session::FIXED_SIZE];
     let mut changes = [0i32; session::MAX_CHANGES];
     let mut front = [0u8; KEPT];
-    let mut block = io::large_buffer();
+    let mut block = [0u8; BLOCK_LENT];
     let mut out = [0u8; OUTPUT_LENT];
+    let mut reader = rt.stdin();
+    let mut writer = rt.stdout();
     answer_input(
         &mut counts,
         &mut words,
@@ -141,5 +176,7 @@ fn main() {
         &mut front,
         &mut block,
         &mut out,
+        &mut reader,
+        &mut writer,
     );
 }

@@ -1,26 +1,26 @@
--- Each turn takes a byte of the block at least, leaves memory that breaks no rule, and is one call more of a sequence over the block.
-use borrow.Author.Rules.{rules}
-use native.Mathlib.Omega.{arith}
-use Prim.Native.Nat.{ℕ, ◌+◌, ◌-◌, ◌<◌, ◌≤◌}
-use mathlib.Core.Path.{◌≡◌, refl, sym, ◌∙◌}
+-- Each turn takes a byte of the block at least, leaves memory that breaks no rule, and is one call more of a sequence over the block; what the
+-- calls answered is what the writer was given.
+use Prim.Native.Nat.{ℕ, ◌-◌, ◌≤◌}
+use mathlib.Core.Path.{◌≡◌}
+use mathlib.Core.Bool.{true}
 use mathlib.Core.List.{List}
-use lib.ListN.{length, take, drop, length-take, length-drop}
-use lib.Seq.{length-take-le}
-use Rattle.simulation.proofs.Sets.{clash}
+use lib.ListN.{length, take}
+use Rattle.std.specs.Io.KnownBytes.{Appends}
 use Rattle.promises.specs.Rules.{verdict}
-use Rattle.frames.specs.Machine.{Memory, memory}
-use Rattle.frames.specs.Blocks.{input_rules, BlockTaken}
-use Rattle.frames.proofs.Inputs.{Within, within-start, within_step, within_end}
-use Rattle.frames.proofs.Passing.{block_at, block_goes, block_written, block-passed}
+use Rattle.frames.specs.Machine.{memory}
+use Rattle.frames.specs.Blocks.{input_rules}
+use Rattle.frames.proofs.Inputs.{Within}
 use Rattle.trigger.proofs.answer_whole.Given as goal
 
 abbrev pub invariant-loop-at : goal.invariant-loop-at
-invariant-loop-at l =
+invariant-loop-at g l =
     (verdict (input_rules (memory l.counts l.words l.session l.changes l.out) l.front) ≡ 0) × (length l.counts ≡ length l.initial.counts) × (length l.words ≡ length l.initial.words)
     × (length l.session ≡ length l.initial.session) × (length l.changes ≡ length l.initial.changes) × (length l.front ≡ length l.initial.front) × (length l.out ≡ length l.initial.out)
     × (l.at ≤ length l.block)
-    × Within (memory l.initial.counts l.initial.words l.initial.session l.initial.changes l.initial.out) (take l.begun l.initial.front) l.block (memory l.counts l.words l.session l.changes l.out) (take l.line l.front) l.at
+    × (output : List ℕ)
+    × Within (memory l.initial.counts l.initial.words l.initial.session l.initial.changes l.initial.out) (take l.begun l.initial.front) l.block output (memory l.counts l.words l.session l.changes l.out) (take l.line l.front) l.at
+    × (l.written ≡ true → Appends (g.W.Write.contents l.initial.writer) (g.W.Write.contents l.writer) output)
 
 abbrev pub decreases-loop-at : goal.decreases-loop-at
-decreases-loop-at l =
+decreases-loop-at g l =
     length l.block - l.at

@@ -1,6 +1,5 @@
 -- The memory is long enough, and zero.
 use Prim.Native.Nat.{ℕ, ◌≤◌}
-use borrow.Author.Rules.{rules}
 use native.Mathlib.Omega.{arith}
 use mathlib.Core.Path.{refl, sym, subst}
 use lib.IntN.{pos}
@@ -17,6 +16,9 @@ lent = 524288
 -- of a list of n zeros nothing is computed but its length: there are too many
 enough : (n : ℕ) → output_size ≤ n → output_size ≤ length (replicate {A = ℕ} n 0)
 enough n l = subst (λ (k : ℕ). output_size ≤ k) (sym (length-replicate {A = ℕ} n 0)) l
+
+pub slice_bounds-answer_input-end-7 : goal.slice_bounds-answer_input-end-7
+slice_bounds-answer_input-end-7 c = sym (length-replicate {A = ℕ} lent 0)
 
 pub answer_input-requires : goal.answer_input-requires
 answer_input-requires c = (
