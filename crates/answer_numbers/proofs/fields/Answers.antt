@@ -19,6 +19,6 @@ pub returns : goal.returns
 unfolding fields
 returns c =
     elim c.if-flag.branch [
-      then-flag w ↦ rw (w.bit-is, w.if-flag.true) refl
-    | else-flag w ↦ rw (w.bit-is, w.if-flag.false) refl
+      | then-flag w ↦ rw (w.bit-is, w.if-flag.true) refl
+      | else-flag w ↦ rw (w.bit-is, w.if-flag.false) refl
     ]

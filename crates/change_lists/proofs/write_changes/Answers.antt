@@ -35,16 +35,16 @@ loop-v-preserved c =
     let bs = a.before.now in
     let cs = a.after.now in
     elim c.if-was-is.branch [
-      then-was-is w ↦
-        let n = w.node_changes-next in
-        rw (w.changes-is, w.next-is) (
-          search rules,
-          omega (arith, n.ensures.past, node-short l.v a.states (get_or bs l.v 0) (get_or cs l.v 0)),
-          n.auto.changes ∙ l.invariant.2,
-          table_wrote a.states bs cs l.v l.invariant.3 n.ensures,
-        )
-    | else-was-is w ↦
-        rw (w.changes-is, w.next-is) (search rules, search rules, l.invariant.2, table-passed a.states bs cs l.v l.invariant.3 w.if-was-is.false)
+      | then-was-is w ↦
+          let n = w.node_changes-next in
+          rw (w.changes-is, w.next-is) (
+            search rules,
+            omega (arith, n.ensures.past, node-short l.v a.states (get_or bs l.v 0) (get_or cs l.v 0)),
+            n.auto.changes ∙ l.invariant.2,
+            table_wrote a.states bs cs l.v l.invariant.3 n.ensures,
+          )
+      | else-was-is w ↦
+          rw (w.changes-is, w.next-is) (search rules, search rules, l.invariant.2, table-passed a.states bs cs l.v l.invariant.3 w.if-was-is.false)
     ]
 
 pub returns : goal.returns

@@ -23,9 +23,9 @@ loop-k-preserved c =
     let v = d.digit (get_or bs l.k 0) in
     let is = c.digit.ensures in
     elim c.if-digit-ge16.branch [
-      then-digit-ge16 w ↦ rw w.faults-is (fold_fault P (length bs) l.k (omega arith) (le-ltb v 16 (rw is at w.if-digit-ge16.true)))
-    | else-digit-ge16 w ↦
-        rw w.faults-is (fold_pass P (length bs) l.faults l.k l.invariant (omega arith) (lt-ltb v 16 (rw is at w.if-digit-ge16.false)))
+      | then-digit-ge16 w ↦ rw w.faults-is (fold_fault P (length bs) l.k (omega arith) (le-ltb v 16 (rw is at w.if-digit-ge16.true)))
+      | else-digit-ge16 w ↦
+          rw w.faults-is (fold_pass P (length bs) l.faults l.k l.invariant (omega arith) (lt-ltb v 16 (rw is at w.if-digit-ge16.false)))
     ]
 
 pub returns : goal.returns

@@ -17,7 +17,7 @@ invariant-loop-turns g l =
     × (length l.session ≡ length l.initial.session) × (length l.changes ≡ length l.initial.changes) × (length l.front ≡ length l.initial.front) × (length l.block ≡ length l.initial.block)
     × (length l.out ≡ length l.initial.out)
     × (l.begun.written ≡ true → (bytes : List ℕ) × (output : List ℕ) × Leads (memory l.initial.counts l.initial.words l.initial.session l.initial.changes l.initial.out) [] bytes output (memory l.counts l.words l.session l.changes l.out) (take l.begun.used l.front)
-        × Consumes (g.R.Read.remaining l.initial.reader) (g.R.Read.remaining l.reader) bytes × Appends (g.W.Write.contents l.initial.writer) (g.W.Write.contents l.writer) output)
+    × Consumes (g.R.Read.remaining l.initial.reader) (g.R.Read.remaining l.reader) bytes × Appends (g.W.Write.contents l.initial.writer) (g.W.Write.contents l.writer) output)
 
 abbrev pub decreases-loop-turns : goal.decreases-loop-turns
 decreases-loop-turns g l =

@@ -31,9 +31,9 @@ loop-i-preserved t c =
     let m = c.loop-i-test.true in
     let link = sym c.has.ensures in
     elim c.if-has.branch [
-      then-has+then-not-has w ↦ rw w.w-is (along-new _ _ _ _ _ m g _ (link ∙ w.if-has.true) w.visit-w.ensures)
-    | then-has+else-not-has w ↦ rw w.w-is (along-old _ _ _ _ _ m g (link ∙ w.if-has.true) (sym w.has-then-has.ensures ∙ w.if-not-has.false))
-    | else-has w ↦ rw w.w-is (along-none _ _ _ _ _ m g (link ∙ w.if-has.false))
+      | then-has+then-not-has w ↦ rw w.w-is (along-new _ _ _ _ _ m g _ (link ∙ w.if-has.true) w.visit-w.ensures)
+      | then-has+else-not-has w ↦ rw w.w-is (along-old _ _ _ _ _ m g (link ∙ w.if-has.true) (sym w.has-then-has.ensures ∙ w.if-not-has.false))
+      | else-has w ↦ rw w.w-is (along-none _ _ _ _ _ m g (link ∙ w.if-has.false))
     ]
 
 pub returns : goal.returns

@@ -32,9 +32,9 @@ loop-i-preserved c =
     let m = c.loop-i-test.true in
     let seen = sym c.has.ensures in
     elim c.if-not-has.branch [
-      then-not-has w ↦
-        rw w.w-is (following_new _ _ _ _ m g _ (ready (goal.at.loop-i-preserved c).In-loop-i (seen ∙ w.if-not-has.true)) w.written-w.ensures)
-    | else-not-has w ↦ rw w.w-is (following_old _ _ _ _ m g (seen ∙ w.if-not-has.false))
+      | then-not-has w ↦
+          rw w.w-is (following_new _ _ _ _ m g _ (ready (goal.at.loop-i-preserved c).In-loop-i (seen ∙ w.if-not-has.true)) w.written-w.ensures)
+      | else-not-has w ↦ rw w.w-is (following_old _ _ _ _ m g (seen ∙ w.if-not-has.false))
     ]
 
 pub returns : goal.returns
