@@ -27,6 +27,7 @@ layout c = deleted_layout c.args.session.now c.args.start c.args.end c.requires.
 inside : (c : After-remove_edge) → c.args.start < nodes (graph_of c.remove_edge.new.session)
 inside c = deleted_start c.args.session.now c.args.start c.args.end c.requires.0 c.requires.1 _ (moved c)
 
+-- the marks that were
 saved : (c : After-copy_words) → c.copy_words.new.place ≡ take max_nodes (drop marks_at c.remove_edge.new.session)
 saved c = c.copy_words.ensures ∙ c.marks_of.ensures
 

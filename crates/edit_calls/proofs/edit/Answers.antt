@@ -1,8 +1,6 @@
 -- A refusal writes nothing; else the edit proper, and its report: no change, or those from the marks that were saved.
-use Prim.Native.Nat.{ℕ}
 use mathlib.Core.Path.{◌≡◌, refl, sym, ◌∙◌, ap}
 use mathlib.Core.Bool.{true}
-use mathlib.Core.List.{List}
 use lib.ListN.{length}
 use Rattle.session.specs.Layout.{marks_of, in_layout}
 use Rattle.pair_tables.specs.Tables.{marked}
@@ -16,20 +14,18 @@ use borrow.Author.Rules.{rules}
 use Rattle.edit_calls.proofs.edit.Goals as goal
 use Rattle.edit_calls.proofs.edit.Goals.{After-edit_proper-effect, Else-broken-ne0}
 
+-- no rule is broken
 passed : (c : Else-broken-ne0) → let a = c.args in verdict (edit_rules (kind_of a.inserts) a.session.now (length a.changes.now) a.start a.end) ≡ 0
 passed c = sym c.edit_rule-broken.ensures ∙ c.if-broken-ne0.false
 
-abbrev session : Else-broken-ne0 → List ℕ
-session c = c.args.session.now
-
-layout : (c : Else-broken-ne0) → in_layout (session c) ≡ true
+layout : (c : Else-broken-ne0) → in_layout c.args.session.now ≡ true
 layout c = let a = c.args in (edit-passed (kind_of a.inserts) a.session.now (length a.changes.now) a.start a.end (passed c)).0
 
 left-layout : (c : After-edit_proper-effect) → in_layout c.edit_proper-effect.new.session ≡ true
 left-layout c =
     let a = c.args in
-    let w = edit-passed (kind_of a.inserts) a.session.now (length a.changes.now) a.start a.end (passed (c.before.before.before)) in
-    called-layout (kind_of a.inserts) (session (c.before.before.before)) a.start a.end w.0 w.2 c.edit_proper-effect.result.trials c.edit_proper-effect.new.session c.edit_proper-effect.ensures.0
+    let w = edit-passed (kind_of a.inserts) a.session.now (length a.changes.now) a.start a.end (sym c.edit_rule-broken.ensures ∙ c.if-broken-ne0.false) in
+    called-layout (kind_of a.inserts) a.session.now a.start a.end w.0 w.2 c.edit_proper-effect.result.trials c.edit_proper-effect.new.session c.edit_proper-effect.ensures.0
 
 pub returns-then-broken-ne0 : goal.returns-then-broken-ne0
 returns-then-broken-ne0 c =
@@ -56,7 +52,7 @@ returns-then-effect c =
     record {
       refuses = λ bad. absurd (bad (passed (goal.at.returns-then-effect c).Else-broken-ne0));
       accepts = λ ok.
-          called-carried (kind_of a.inserts) (session (goal.at.returns-then-effect c).Else-broken-ne0) a.start a.end w.0 w.2 c.edit_proper-effect.result.trials xs' c.edit_proper-effect.ensures.0
+          called-carried (kind_of a.inserts) a.session.now a.start a.end w.0 w.2 c.edit_proper-effect.result.trials xs' c.edit_proper-effect.ensures.0
           (marks_of xs') (c.edit_proper-effect.ensures.1.same c.if-effect.true) _ _ _
           (reported-same xs' c.edit_proper-effect.result.trials a.changes.now c.answered.result c.answered.ensures);
     }
@@ -73,6 +69,6 @@ returns c =
     record {
       refuses = λ bad. absurd (bad (passed (goal.at.returns c).Else-broken-ne0));
       accepts = λ ok.
-          called-carried (kind_of a.inserts) (session (goal.at.returns c).Else-broken-ne0) a.start a.end w.0 w.2 c.edit_proper-effect.result.trials c.edit_proper-effect.new.session c.edit_proper-effect.ensures.0
+          called-carried (kind_of a.inserts) a.session.now a.start a.end w.0 w.2 c.edit_proper-effect.result.trials c.edit_proper-effect.new.session c.edit_proper-effect.ensures.0
           (marked c.edit_proper-effect.new.before) (c.edit_proper-effect.ensures.1.saved c.if-effect.false) _ _ _ c.report.ensures;
     }

@@ -9,6 +9,7 @@ use Rattle.edit_rules.proofs.Ruled.{edit-broken, shared_passed, insert_present, 
 use Rattle.edit_rules.proofs.edit_rule.Goals as goal
 use Rattle.edit_rules.proofs.edit_rule.Goals.{Else-broken-ne0}
 
+-- the edge is looked for where no rule that both share is broken
 passed : (c : Else-broken-ne0) → let a = c.args in verdict (shared_rules a.session.now a.room a.start a.end) ≡ 0
 passed c = sym c.shared_rule-broken.ensures ∙ c.if-broken-ne0.false
 

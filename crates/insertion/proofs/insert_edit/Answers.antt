@@ -21,6 +21,7 @@ use Rattle.session.specs.Limits.{max_nodes}
 use Rattle.insertion.proofs.insert_edit.Goals as goal
 use Rattle.insertion.proofs.insert_edit.Goals.{After-insert_edge, After-try_out-trials, After-put_together}
 
+-- the session with the edge in it
 layout : (c : After-insert_edge) → in_layout c.insert_edge.new.session ≡ true
 layout c =
     in_layout_lem c.args.session.now c.args.start c.args.end c.requires.0 c.requires.1 c.insert_edge.new.session c.insert_edge.ensures
@@ -29,9 +30,11 @@ near : (c : After-insert_edge) → c.args.start < nodes (graph_of c.insert_edge.
 near c =
     start_near c.args.session.now c.args.start c.args.end c.requires.0 c.requires.1 c.insert_edge.new.session c.insert_edge.ensures
 
+-- what was tried
 begun : (c : After-try_out-trials) → Begun c.insert_edge.new.session c.args.start c.args.end c.try_out-trials.new.table c.try_out-trials.result
 begun c = c.try_out-trials.ensures c.args.end c.seeds_at-seeds.ensures
 
+-- and what is marked then
 both : (c : After-put_together) (u v : ℕ)
     → marked c.put_together.new.table u v ≡ (marked c.try_out-trials.new.table u v || marks_of c.insert_edge.new.session u v)
 both c u v =

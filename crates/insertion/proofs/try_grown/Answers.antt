@@ -16,6 +16,7 @@ bounded c = layout_limits c.args.session.now c.requires.session_value.0
 abbrev facts : (c : Start) → LayoutFacts c.args.session.now
 facts c = layout-facts c.args.session.now c.requires.session_value.0
 
+-- the table holds the trial set of some end
 tried : (c : After-try_pairs)
     → let xs = c.args.session.now in
     Holds xs (trial_set (trigger_of xs) (graph_of xs) (marks_of xs) c.args.start c.requires.by_index.0) c.try_pairs.new.table
