@@ -12,7 +12,6 @@ use lib.IntN.{ℤ}
 use lib.ListN.{length, get_or, set, take, drop}
 use lib.Seq.{get_or-set_same, get_or-set_other}
 use borrow.Author.Tests.{le-ltb, ltb-false, leb-false}
-use denote.Enum.Declared
 use Rattle.simulation.proofs.Sets.{or_false_l, or_false_r}
 use Rattle.session.specs.Limits.{fixed_size, max_states, max_nodes, max_changes}
 use Rattle.listing.specs.Placed.{Placed}
@@ -22,6 +21,8 @@ use Rattle.promises.proofs.Verdicts.{accepts-or, verdict_pass, row-passed, row-b
 use Rattle.frames.specs.declared.Frame as declared
 use Rattle.frames.specs.declared.Frame.TheVariants as F
 use Rattle.frames.specs.declared.Taken.TheVariants as T
+use Rattle.frames.specs.declared.State.{State}
+use Rattle.frames.specs.declared.Edge.{Edge}
 use Rattle.frames.specs.Frames.{Frame, state, node, run, edit, walk, nothing, said, frame_of}
 use Rattle.frames.specs.Outputs.{refusal}
 use Rattle.frames.specs.Machine.{
@@ -49,7 +50,6 @@ use Rattle.frames.specs.Machine.{
   Stepped,
 }
 use Rattle.frames.proofs.Kept.{state-moment, state-ready, node-moment, node-ready}
-use Rattle.frames.specs.contracts.Frame as F'
 
 -- bytes placed at the front of the output are printed
 pub printed-front : (counts words s : List ℕ) (c : List ℤ) {out bytes out' : List ℕ} {n : ℕ} → Placed out 0 bytes out' n
@@ -76,30 +76,24 @@ read_parts m inverted e =
 
 -- ---- a frame of the other moment: edits and the order are early, states, nodes and the run are late
 
--- one of three keys
-key : {t a b c : ℕ} → (t ≡ a) ⊎ ((t ≡ b) ⊎ (t ≡ c)) → a ≤ b → b ≤ c → (a ≤ t) × (t ≤ c)
-key h l k =
-    ⊎_elim (λ e. (omega (arith, e), omega (arith, e)))
-    (⊎_elim (λ e. (omega (arith, e), omega (arith, e))) (λ e. (omega (arith, e), omega (arith, e)))) h
-
 module _ (m m' : Memory) (n : ℕ) (p : Prints (refusal 2) m n m') where
-  pub early : (g : declared.Frame) → (Declared.tag_of F'.the_type g ≡ 3) ⊎ ((Declared.tag_of F'.the_type g ≡ 4) ⊎ (Declared.tag_of F'.the_type g ≡ 5)) → Before (said g) m n m'
-  early (F.State s) h = absurd (omega (arith, key h (omega arith) (omega arith)))
-  early (F.Node x) h = absurd (omega (arith, key h (omega arith) (omega arith)))
-  early F.Run h = absurd (omega (arith, key h (omega arith) (omega arith)))
-  early (F.Insert e) h = p
-  early (F.Delete e) h = p
-  early F.Walk h = p
-  early F.Nothing h = absurd (omega (arith, key h (omega arith) (omega arith)))
+  pub early : (g : declared.Frame) → ((s : State) → g ≡ F.State s → ⊥) → ((x : ℕ) → g ≡ F.Node x → ⊥) → (g ≡ F.Run → ⊥) → (g ≡ F.Nothing → ⊥) → Before (said g) m n m'
+  early (F.State s) a b c d = absurd (a s refl)
+  early (F.Node x) a b c d = absurd (b x refl)
+  early F.Run a b c d = absurd (c refl)
+  early (F.Insert e) a b c d = p
+  early (F.Delete e) a b c d = p
+  early F.Walk a b c d = p
+  early F.Nothing a b c d = absurd (d refl)
 
-  pub late : (g : declared.Frame) → (Declared.tag_of F'.the_type g ≡ 0) ⊎ ((Declared.tag_of F'.the_type g ≡ 1) ⊎ (Declared.tag_of F'.the_type g ≡ 2)) → After (said g) m n m'
-  late (F.State s) h = p
-  late (F.Node x) h = p
-  late F.Run h = p
-  late (F.Insert e) h = absurd (omega (arith, key h (omega arith) (omega arith)))
-  late (F.Delete e) h = absurd (omega (arith, key h (omega arith) (omega arith)))
-  late F.Walk h = absurd (omega (arith, key h (omega arith) (omega arith)))
-  late F.Nothing h = absurd (omega (arith, key h (omega arith) (omega arith)))
+  pub late : (g : declared.Frame) → ((e : Edge) → g ≡ F.Insert e → ⊥) → ((e : Edge) → g ≡ F.Delete e → ⊥) → (g ≡ F.Walk → ⊥) → (g ≡ F.Nothing → ⊥) → After (said g) m n m'
+  late (F.State s) a b c d = p
+  late (F.Node x) a b c d = p
+  late F.Run a b c d = p
+  late (F.Insert e) a b c d = absurd (a e refl)
+  late (F.Delete e) a b c d = absurd (b e refl)
+  late F.Walk a b c d = absurd (c refl)
+  late F.Nothing a b c d = absurd (d refl)
 
 -- ---- a line at its moment
 

@@ -14,10 +14,10 @@ use Rattle.frames_after_run.proofs.walk_line.Goals as goal
 use Rattle.frames_after_run.proofs.walk_line.Goals.{In-Listed}
 
 -- as many states as the trigger may have
-few : (c : In-Listed) → c.answer-1.given.0.0 ≤ max_states
-few c = let o = c.order-walk in ordered-few c.args.session.now o.result c.answer-1.given.0.0 o.ensures (ap told_order c.answer-1.given.1)
+few : (c : In-Listed) → c.in-Listed.n ≤ max_states
+few c = let o = c.order-walk in ordered-few c.args.session.now o.result c.in-Listed.n o.ensures (ap told_order c.in-Listed.is)
 
-short : (c : In-Listed) → c.answer-1.given.0.0 ≤ length c.order-walk.result.states
+short : (c : In-Listed) → c.in-Listed.n ≤ length c.order-walk.result.states
 short c = omega (arith, few c, ap length c.order-walk.ensures.states ∙ length-section max_states _)
 
 pub slice_bounds-states-end : goal.slice_bounds-states-end
@@ -30,14 +30,14 @@ slice_bounds-put_order-end c =
 
 pub put_order-requires : goal.put_order-requires
 put_order-requires c =
-    omega (arith, c.requires, few (goal.at.put_order-requires c).In-Listed, length-take-le c.answer-1.given.0.0 c.order-walk.result.states (short (goal.at.put_order-requires c).In-Listed))
+    omega (arith, c.requires, few (goal.at.put_order-requires c).In-Listed, length-take-le c.in-Listed.n c.order-walk.result.states (short (goal.at.put_order-requires c).In-Listed))
 
 pub returns-in-Listed : goal.returns-in-Listed
 returns-in-Listed c =
     λ counts words room. record {
       order = c.order-walk.result;
       orders = c.order-walk.ensures;
-      prints = rw (ap told_order c.answer-1.given.1) (printed-front counts words _ room c.put_order.ensures);
+      prints = rw (ap told_order c.in-Listed.is) (printed-front counts words _ room c.put_order.ensures);
     }
 
 pub returns-in-Refused : goal.returns-in-Refused
@@ -45,5 +45,5 @@ returns-in-Refused c =
     λ counts words room. record {
       order = c.order-walk.result;
       orders = c.order-walk.ensures;
-      prints = rw (ap told_order c.answer-in-Refused-1.given.1) (printed-front counts words _ room c.put_refusal.ensures);
+      prints = rw (ap told_order c.in-Refused.is) (printed-front counts words _ room c.put_refusal.ensures);
     }

@@ -5,20 +5,21 @@ use Rattle.frames_before_run.proofs.before_run.Goals as goal
 
 pub returns-in-State : goal.returns-in-State
 returns-in-State c =
-    rw c.frame-1.given.1 (c.state_line.ensures _ _)
+    rw c.in-State.is (c.state_line.ensures _ _)
 
 pub returns-in-Node : goal.returns-in-Node
 returns-in-Node c =
-    rw c.frame-in-Node-1.given.1 (c.node_line.ensures _ _)
+    rw c.in-Node.is (c.node_line.ensures _ _)
 
 pub returns-in-Run : goal.returns-in-Run
 returns-in-Run c =
-    rw c.enum_told-1.given.1 c.run_line.ensures
+    rw c.in-Run.is c.run_line.ensures
 
 pub returns-in-Nothing : goal.returns-in-Nothing
 returns-in-Nothing c =
-    rw c.enum_told-in-Nothing-1.given.1 (printed-front _ _ _ _ c.put_refusal.ensures)
+    rw c.in-Nothing.is (printed-front _ _ _ _ c.put_refusal.ensures)
 
 pub returns-in_default : goal.returns-in_default
 returns-in_default c =
-    early _ _ _ (printed-front _ _ _ _ c.put_refusal-in_default.ensures) c.args.frame c.in_default.keys5
+    let d = c.in_default in
+    early _ _ _ (printed-front _ _ _ _ c.put_refusal-in_default.ensures) c.args.frame d.not-State d.not-Node d.not-Run d.not-Nothing

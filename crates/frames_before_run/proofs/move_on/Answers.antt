@@ -8,4 +8,4 @@ use Rattle.frames_before_run.proofs.move_on.Goals as goal
 
 pub returns-in-Accepted : goal.returns-in-Accepted
 returns-in-Accepted c =
-    sym (ap (λ (a : Answer). moved (told a) c.args.counts.now) c.enum_told-1.given.1)
+    sym (ap (λ (a : Answer). moved (told a) c.args.counts.now) c.in-Accepted.is)

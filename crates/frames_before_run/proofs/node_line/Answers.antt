@@ -8,10 +8,6 @@ use Rattle.session.specs.Limits.{max_nodes}
 use Rattle.frames.proofs.Takes.{printed-front}
 use Rattle.frames_before_run.proofs.node_line.Goals as goal
 
-pub overflow_cast-n : goal.overflow_cast-n
-overflow_cast-n c =
-    record { fits = omega (arith, c.slice_known-4-1.given 2) }
-
 pub returns-then-n-ge-MAX_NODES : goal.returns-then-n-ge-MAX_NODES
 returns-then-n-ge-MAX_NODES c =
     λ s k. let a = c.args in rw (le-leb max_nodes (get_or a.counts.now 2 0) c.if-n-ge-MAX_NODES.true) (printed-front a.counts.now a.words.now s k c.put_refusal.ensures)

@@ -12,10 +12,6 @@ use Rattle.frames.specs.Machine.{inverted_in, links_in}
 use Rattle.frames.proofs.Takes.{printed-front}
 use Rattle.frames_before_run.proofs.state_line.Goals as goal
 
-pub overflow_cast-n : goal.overflow_cast-n
-overflow_cast-n c =
-    record { fits = omega (arith, c.slice_known-4-1.given 1) }
-
 pub returns-then-n-ge-MAX_STATES : goal.returns-then-n-ge-MAX_STATES
 returns-then-n-ge-MAX_STATES c =
     λ s k. let a = c.args in rw (le-leb max_states (get_or a.counts.now 1 0) c.if-n-ge-MAX_STATES.true) (printed-front a.counts.now a.words.now s k c.put_refusal.ensures)
