@@ -2,23 +2,34 @@
 //! and writes it.
 
 use std::fs;
-use std::path::Path;
+use std::path::{Path, PathBuf};
 use std::process::Command;
 use std::time::SystemTime;
 
 fn main() {
     let root = Path::new(env!("CARGO_MANIFEST_DIR")).join("../..");
-    let folder = root.join("target/staticlib");
+    let engine = root.join("crates/trigger_engine");
+    let folder = engine.join("out");
     let archive = folder.join("libtrigger_engine.a");
-    let sources = root.join("crates");
-    if written(&archive).is_none_or(|time| newest(&sources) > time) {
-        prove(&root);
+    let sources = sources(&root);
+    let changed = sources.iter().map(|path| newest(path)).max();
+    if written(&archive).is_none_or(|time| changed.is_some_and(|last| last > time)) {
+        prove(&engine);
     }
-    for path in [Path::new("build.rs"), &archive, &sources] {
+    println!("cargo::rerun-if-changed=build.rs");
+    for path in sources.iter().chain([&archive]) {
         println!("cargo::rerun-if-changed={}", path.display());
     }
     println!("cargo::rustc-link-search=native={}", folder.display());
     println!("cargo::rustc-link-lib=static=trigger_engine");
+}
+
+/// What the archive is made from: the list of crates, and each crate's folders but the toolchain's own.
+fn sources(root: &Path) -> Vec<PathBuf> {
+    let crates = fs::read_dir(root.join("crates")).into_iter().flatten().flatten();
+    let folders = crates.flat_map(|it| ["src", "specs", "proofs"].map(|part| it.path().join(part)));
+    let there = folders.filter(|path| path.is_dir());
+    there.chain([root.join("crates.txt")]).collect()
 }
 
 /// When a file was written.
@@ -34,11 +45,11 @@ fn newest(path: &Path) -> SystemTime {
     files.chain(own).max().unwrap_or(SystemTime::UNIX_EPOCH)
 }
 
-fn prove(root: &Path) {
-    let done = Command::new("rt").args(["staticlib", "trigger_engine"]).current_dir(root).status();
+fn prove(engine: &Path) {
+    let done = Command::new("rt").arg("lib").current_dir(engine).status();
     match done {
         Ok(status) if status.success() => {}
-        Ok(status) => panic!("rt staticlib trigger_engine: {status}"),
+        Ok(status) => panic!("rt lib in crates/trigger_engine: {status}"),
         Err(error) => panic!("rt, the toolchain of the engine, does not run: {error}"),
     }
 }

@@ -9,7 +9,7 @@
    The archive calls memset, memcpy and memmove of the C library. They are part of the figures, and are measured by themselves too. They have to be bound
    before the first run (gcc -Wl,-z,now): the dynamic linker would use the same stack.
 
-   gcc -std=c11 -Iinclude tests/c/stack.c target/staticlib/libtrigger_engine.a -Wl,-z,now -o target/stack */
+   gcc -std=c11 -Iinclude tests/c/stack.c crates/trigger_engine/out/libtrigger_engine.a -Wl,-z,now -o crates/trigger_engine/out/stack */
 #define _XOPEN_SOURCE 700
 #include "trigger_engine.h"
 

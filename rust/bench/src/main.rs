@@ -1,5 +1,5 @@
 //! Times the engine beside its twin in plain Rust and the plain fixed-point program, in one run and in turns; then the
-//! frame program, `target/bin/trigger`, which prints long change lists.
+//! frame program, `crates/trigger/out/trigger`, which prints long change lists.
 //!
 //!     bench [--rounds N] [--sizes N,N,..] [--only TEXT] [--before PATH]
 //!

@@ -12,11 +12,11 @@ const PATIENCE: Duration = Duration::from_secs(60);
 
 /// Where the frame program is. Where it is missing, tests and benchmark fail, unless `TRIGGER_WITHOUT_PROGRAM` is set.
 pub fn path() -> Option<PathBuf> {
-    let path = Path::new(env!("CARGO_MANIFEST_DIR")).join("../../target/bin/trigger");
+    let path = Path::new(env!("CARGO_MANIFEST_DIR")).join("../../crates/trigger/out/trigger");
     if path.exists() {
         return Some(path);
     }
-    let missing = "target/bin/trigger is missing; 'rt check trigger' builds it";
+    let missing = "crates/trigger/out/trigger is missing; 'rt run' in crates/trigger builds it";
     if std::env::var_os("TRIGGER_WITHOUT_PROGRAM").is_none() {
         panic!("{missing}");
     }
