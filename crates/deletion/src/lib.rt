@@ -59,7 +59,8 @@ pub fn delete_edit(session: &mut [u32], start: u32, end: u32, before: &mut [u32]
     ensures { Done deletion (trigger_of session.old) (graph_of session.old) (marks_of session.old) (marks_of session.new) start end result.trials session.old session.new × Saved session.old session.new before.new result.calm }
 {
     remove_edge(session, start, end);
-    if steady(session, start) {
+    let unmoved = steady(session, start);
+    if unmoved {
         return Effect {
             trials: 0,
             calm: true,

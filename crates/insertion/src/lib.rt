@@ -57,7 +57,8 @@ pub fn insert_edit(session: &mut [u32], start: u32, end: u32, before: &mut [u32]
 {
     insert_edge(session, start, end);
     let seeds = seeds_at(session, start, end);
-    if seeds == 0 {
+    let fruitless = seeds == 0;
+    if fruitless {
         return Effect {
             trials: 0,
             calm: true,

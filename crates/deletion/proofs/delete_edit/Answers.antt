@@ -42,15 +42,15 @@ remove_edge-requires c =
       end_value = (deletion_passed (graph_of c.args.session.now) c.args.start c.args.end c.requires.1).2;
     }
 
-pub steady-requires : goal.steady-requires
-steady-requires c =
-    (layout (goal.at.steady-requires c).After-remove_edge, inside (goal.at.steady-requires c).After-remove_edge)
+pub steady-unmoved-requires : goal.steady-unmoved-requires
+steady-unmoved-requires c =
+    (layout (goal.at.steady-unmoved-requires c).After-remove_edge, inside (goal.at.steady-unmoved-requires c).After-remove_edge)
 
-pub returns-then-steady : goal.returns-then-steady
-returns-then-steady c =
+pub returns-then-unmoved : goal.returns-then-unmoved
+returns-then-unmoved c =
     let a = c.args in (
-      deleted_same a.session.now a.start a.end c.requires.0 c.requires.1 _ (moved (goal.at.returns-then-steady c).After-remove_edge) (sym c.steady.ensures ∙ c.if-steady.true),
-      saved_calm deletion a.session.now a.start a.end c.requires.0 c.requires.1 _ (moved (goal.at.returns-then-steady c).After-remove_edge) _,
+      deleted_same a.session.now a.start a.end c.requires.0 c.requires.1 _ (moved (goal.at.returns-then-unmoved c).After-remove_edge) (sym c.steady-unmoved.ensures ∙ c.if-unmoved.true),
+      saved_calm deletion a.session.now a.start a.end c.requires.0 c.requires.1 _ (moved (goal.at.returns-then-unmoved c).After-remove_edge) _,
     )
 
 pub marks_of-requires : goal.marks_of-requires

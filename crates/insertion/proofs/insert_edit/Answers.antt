@@ -58,12 +58,12 @@ seeds_at-seeds-requires c = (
   end_near c.args.session.now c.args.start c.args.end c.requires.0 c.requires.1 c.insert_edge.new.session c.insert_edge.ensures,
 )
 
-pub returns-then-seeds-eq0 : goal.returns-then-seeds-eq0
-returns-then-seeds-eq0 c =
+pub returns-then-fruitless : goal.returns-then-fruitless
+returns-then-fruitless c =
     let a = c.args in (
       inserted_same a.session.now a.start a.end c.requires.0 c.requires.1 c.insert_edge.new.session c.insert_edge.ensures
           (λ u.
-          sym (ap (λ (X : Set). X u) c.seeds_at-seeds.ensures) ∙ ap (λ (w : ℕ). members w u) c.if-seeds-eq0.true ∙ zero-members u),
+          sym (ap (λ (X : Set). X u) c.seeds_at-seeds.ensures) ∙ ap (λ (w : ℕ). members w u) c.if-fruitless.true ∙ zero-members u),
       saved_calm insertion a.session.now a.start a.end c.requires.0 c.requires.1 c.insert_edge.new.session c.insert_edge.ensures _,
     )
 
