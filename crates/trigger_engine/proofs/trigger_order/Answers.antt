@@ -1,5 +1,4 @@
 -- Too few places, the order written, or the rule.
-use borrow.Author.Rules.{rules}
 use native.Mathlib.Omega.{arith}
 use mathlib.Core.Path.{ap}
 use Rattle.promises.specs.Answers.{told_order}
@@ -14,10 +13,10 @@ returns-then-states-lt-MAX_STATES c =
 pub returns-in-Listed : goal.returns-in-Listed
 returns-in-Listed c =
     let o = c.order-found in
-    order-listed _ _ c.if-states-lt-MAX_STATES.false o.result o.ensures _ c.order_number.ensures _ _ (ap told_order c.enum_told-1.given.1)
+    order-listed _ _ c.if-states-lt-MAX_STATES.false o.result o.ensures _ c.order_number.ensures _ _ (ap told_order c.in-Listed.is)
     c.fill_front.ensures
 
 pub returns-in-Refused : goal.returns-in-Refused
 returns-in-Refused c =
     let o = c.order-found in
-    order-refused _ _ c.if-states-lt-MAX_STATES.false o.result o.ensures _ c.order_number-in-Refused.ensures _ (ap told_order c.enum_told-in-Refused-1.given.1)
+    order-refused _ _ c.if-states-lt-MAX_STATES.false o.result o.ensures _ c.order_number-in-Refused.ensures _ (ap told_order c.in-Refused.is)
