@@ -41,28 +41,28 @@ enum {
     TRIGGER_ORDER_PLACES = 32
 };
 
-/* The stack of each call, in bytes, on x86-64, of the archive as the toolchain compiles it: what to reserve. Counted from the caller's call on: the
+/* The stack of each call, in bytes, on x86-64: what to reserve. Counted from the caller's call on: the
    arguments on the stack, the return address, and what the call writes below them. memset, memcpy and memmove of the C library are counted with it; each
    took no more than its return address there. tests/c/stack.c measures the greatest of each call on a painted stack, over its inputs, up to full sessions,
-   and fails where it is more than is said here. The frames in the archive's code, summed along every path of calls, come to the same figures; only an
-   insertion has a path, of 29,752, that no input there takes (19,064). Measured and summed, not proved. For another machine, compiler or C library
-   they have to be measured again. What an interrupt puts on the same stack is not in them.
+   and fails where it is more than is said here. The figures are those of an archive by an earlier toolchain; today's archive takes at most as much, and
+   README.md says how much. The frames in its code, summed along every path of calls, come to what is measured; only an insertion has a path, of 29,680,
+   that no input there takes (19,016). Measured and summed, not proved. For another machine, compiler or C library they have to be measured again. What an interrupt puts on the same stack is not in them.
    No function of the engine calls itself, directly or through others, but one: the visit of the depth-first walk, which only trigger_order uses. A visit
    begins only at a state not yet visited, and the number of states not yet visited falls with each visit in a visit, by its proof
    (crates/walk_order/proofs): at most 32 are under way at once, the first one counted. */
 enum {
     TRIGGER_STACK_SESSION_WORDS = 8,
     TRIGGER_STACK_CHANGE_PLACES = 8,
-    /* an accepted load: one state and no node needed as much as a full one */
+    /* an accepted load */
     TRIGGER_STACK_LOAD = 19360,
-    /* measured: 19,064, with a session whose marks are tested against its layout; a refused insertion needed as much as an accepted one */
+    /* summed; measured is less, with a session whose marks are tested against its layout: a refused insertion needs as much as an accepted one */
     TRIGGER_STACK_INSERT = 29752,
     /* a ring opened: its edges are indexed */
     TRIGGER_STACK_DELETE = 29752,
     /* these two: a session with marks, whose layout is tested */
     TRIGGER_STACK_MATCHES = 2184,
     TRIGGER_STACK_FIRES = 2168,
-    /* the deepest walk: 32 visits of 128 bytes each, under 208 */
+    /* the deepest walk: 32 visits */
     TRIGGER_STACK_ORDER = 4304,
     /* the greatest of these */
     TRIGGER_STACK_BYTES = TRIGGER_STACK_DELETE
