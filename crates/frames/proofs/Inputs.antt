@@ -265,7 +265,7 @@ Within m begun bytes out m' begun' at =
     (more rest : List ℕ) → InputCalls m' begun' (drop at bytes ++ more) rest → InputCalls m begun (bytes ++ more) (out ++ rest)
 
 pub within-start : (m : Memory) (begun bytes : List ℕ) → Within m begun bytes [] m begun 0
-within-start m begun bytes more rest c = c
+within-start m begun bytes _ _ c = c
 
 pub within_step : (m : Memory) (begun bytes out : List ℕ) (m₁ : Memory) (front : List ℕ) (used at : ℕ) (r : Progress) (m₂ : Memory) (front' : List ℕ)
     → Within m begun bytes out m₁ (take used front) at → BlockTaken m₁ front used (take (length bytes - at) (drop at bytes)) r m₂ front'

@@ -14,8 +14,10 @@ abbrev lent : Start → Memory
 lent c = memory c.args.counts.now c.args.words.now c.args.session.now c.args.changes.now c.args.out.now
 
 -- what the first test leaves
-long : (c : Else-too_small) → counts_size ≤ length (lent (c.before.before.before.before.before.before.before)).counts
-long c = (long_enough (lent (c.before.before.before.before.before.before.before)) (sym c.too_small.ensures ∙ c.if-too_small.false)).0
+long : (c : Else-too_small) → counts_size ≤ length c.args.counts.now
+long c =
+    let a = c.args in
+    (long_enough (memory a.counts.now a.words.now a.session.now a.changes.now a.out.now) (sym c.too_small.ensures ∙ c.if-too_small.false)).0
 
 pub returns-then-too_small : goal.returns-then-too_small
 returns-then-too_small c =
