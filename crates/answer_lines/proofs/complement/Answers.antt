@@ -1,5 +1,4 @@
 -- By the sign.
-use borrow.Author.Rules.{rules}
 use borrow.Author.Tests.{not-true, not-false}
 use mathlib.Core.Path.{refl, sym, ◌∙◌, ap}
 use lib.IntN.{ℤ, pos, nat_abs}

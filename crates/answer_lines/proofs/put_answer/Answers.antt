@@ -1,7 +1,7 @@
 -- The report and then its changes, or the refusal.
 use Prim.Native.Nat.{◌*◌}
 use native.Mathlib.Omega.{arith}
-use mathlib.Core.Path.{◌≡◌, sym, ◌∙◌, ap}
+use mathlib.Core.Path.{◌≡◌, ap}
 use lib.ListN.{length}
 use Rattle.listing.proofs.Placing.{placed-append}
 use Rattle.promises.specs.Answers.{told, handed_back}

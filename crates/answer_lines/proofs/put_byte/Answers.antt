@@ -1,5 +1,4 @@
 -- One place is written.
-use borrow.Author.Rules.{rules}
 use Rattle.listing.proofs.Placing.{placed_one}
 use Rattle.answer_lines.proofs.put_byte.Goals as goal
 

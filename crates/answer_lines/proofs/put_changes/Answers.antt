@@ -1,14 +1,13 @@
-use Prim.Native.Nat.{◌-◌}
 use borrow.Author.Rules.{rules}
 use native.Mathlib.Omega.{arith}
 use mathlib.Core.Path.{subst}
 use mir.Syntax.{w32}
 use mir.ValLaws.{to_z-of_z}
 use Rattle.listing.specs.Placed.{Placed}
-use lib.ListN.{length, get_or}
+use lib.ListN.{get_or}
 use lib.IntN.{ℤ, pos}
 use Rattle.frames.specs.Outputs.{changed, change_size}
-use Rattle.frames.proofs.Listed.{Listing, changed-long, listing_start, listing_next, listing_long, listing_more, listing_end}
+use Rattle.frames.proofs.Listed.{changed-long, listing_start, listing_next, listing_long, listing_more, listing_end}
 use Rattle.answer_lines.proofs.put_changes.Goals as goal
 
 pub loop-k-init : goal.loop-k-init

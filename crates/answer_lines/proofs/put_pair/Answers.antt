@@ -1,5 +1,4 @@
 -- One number after the other, and the line feed.
-use borrow.Author.Rules.{rules}
 use native.Mathlib.Omega.{arith}
 use mathlib.Core.List.{◌++◌}
 use Rattle.listing.proofs.Placing.{placed-append}

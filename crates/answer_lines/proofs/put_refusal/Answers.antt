@@ -1,5 +1,4 @@
 -- The kind, the number and the line feed.
-use borrow.Author.Rules.{rules}
 use native.Mathlib.Omega.{arith}
 use mathlib.Core.List.{[], ◌∷◌, ◌++◌, append_assoc}
 use Rattle.listing.proofs.Placing.{placed-append}

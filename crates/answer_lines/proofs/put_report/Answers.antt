@@ -1,5 +1,4 @@
 -- The kind and the firing, then the two counts.
-use borrow.Author.Rules.{rules}
 use native.Mathlib.Omega.{arith}
 use mathlib.Core.List.{[], ◌∷◌, ◌++◌}
 use Rattle.listing.specs.Placed.{Placed}

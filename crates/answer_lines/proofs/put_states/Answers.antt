@@ -1,10 +1,7 @@
-use Prim.Native.Nat.{◌-◌}
-use borrow.Author.Rules.{rules}
 use native.Mathlib.Omega.{arith}
-use lib.ListN.{length}
 use Rattle.frames.specs.Digits.{digits}
 use Rattle.frames.proofs.Written.{digits_long}
-use Rattle.frames.proofs.Listed.{Listing, listing_start, listing_next, listing_long, listing_more, listing_end}
+use Rattle.frames.proofs.Listed.{listing_start, listing_next, listing_long, listing_more, listing_end}
 use Rattle.answer_lines.proofs.put_states.Goals as goal
 
 pub loop-k-init : goal.loop-k-init

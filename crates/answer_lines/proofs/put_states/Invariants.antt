@@ -1,11 +1,8 @@
 -- Two digits a state, one after the other.
 use Prim.Native.Nat.{◌-◌}
-use borrow.Author.Rules.{rules}
-use native.Mathlib.Omega.{arith}
 use lib.ListN.{length}
 use Rattle.frames.specs.Digits.{digits}
-use Rattle.frames.proofs.Written.{digits_long}
-use Rattle.frames.proofs.Listed.{Listing, listing_start, listing_next, listing_long, listing_more, listing_end}
+use Rattle.frames.proofs.Listed.{Listing}
 use Rattle.answer_lines.proofs.put_states.Given as goal
 
 abbrev pub invariant-loop-k : goal.invariant-loop-k

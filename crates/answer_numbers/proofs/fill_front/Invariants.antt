@@ -1,11 +1,7 @@
 -- `fill_front` meets its contract: the places before i hold the order.
 use Prim.Native.Nat.{◌-◌, ◌≤◌}
-use borrow.Author.Rules.{rules}
-use native.Mathlib.Omega.{arith}
-use mathlib.Core.Path.{◌≡◌, refl}
 use lib.ListN.{get_or}
-use Rattle.session.specs.Layout.{section}
-use Rattle.sections.proofs.Fills.{Filled, fill_start, fill_step}
+use Rattle.sections.proofs.Fills.{Filled}
 use Rattle.session.specs.Limits.{max_states}
 use Rattle.answer_numbers.proofs.fill_front.Given as goal
 

@@ -1,14 +1,12 @@
 use Prim.Native.Nat.{◌<◌}
 use native.Mathlib.Omega.{arith}
-use borrow.Author.Rules.{rules}
 use mathlib.Core.Path.{◌∙◌, ap}
 use mathlib.Core.Bool.{Bool}
 use lib.ListN.{length}
 use mir.Syntax.{w32}
 use mir.ValLaws.{to_z-of_z}
-use Rattle.bits.specs.Word.{members}
 use Rattle.listing.specs.Changes.{size_of, signed}
-use Rattle.listing.proofs.Placing.{Writing, left, writing_start, writing_room, writing_less, writing_next, writing_end}
+use Rattle.listing.proofs.Placing.{writing_start, writing_room, writing_less, writing_next, writing_end}
 use Rattle.change_lists.proofs.node_changes.Goals as goal
 use Rattle.change_lists.proofs.node_changes.Goals.{After-lowest-u}
 

@@ -1,6 +1,5 @@
 -- `size_of` meets its contract: 0 - change is taken in 64 bits, so that it fits for every number.
 use native.Mathlib.Omega.{arith}
-use borrow.Author.Rules.{rules}
 use mathlib.Core.Path.{sym, ap, subst, ◌∙◌}
 use lib.IntN.{ℤ, nat_abs, pos}
 use lib.Signed.{non_neg, lt_z, nat_abs-le}

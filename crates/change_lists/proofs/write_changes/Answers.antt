@@ -1,14 +1,11 @@
-use Prim.Native.Nat.{◌*◌, ◌-◌, ◌≤◌}
 use native.Mathlib.Omega.{arith}
 use borrow.Author.Rules.{rules}
 use borrow.Author.Tests.{eqb-true}
 use mathlib.Core.Path.{◌≡◌, refl, sym, ◌∙◌}
 use lib.Dec.{eqb}
-use lib.ListN.{length, get_or}
+use lib.ListN.{get_or}
 use Rattle.simulation.proofs.Sets.{all_take}
-use Rattle.listing.specs.Placed.{table_changes, Placed}
 use Rattle.listing.proofs.Placing.{placed-start, node-short, table_none, table_same, table_wrote, table-passed}
-use Rattle.session.specs.Limits.{max_states}
 use Rattle.change_lists.proofs.write_changes.Goals.{then-was-is, else-was-is}
 use Rattle.change_lists.proofs.write_changes.Goals as goal
 

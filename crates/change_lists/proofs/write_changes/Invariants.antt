@@ -1,15 +1,8 @@
 -- `write_changes` meets its contract: tables that agree have no changes, and after v nodes the changes of these are written, at most one a state for each.
 use Prim.Native.Nat.{◌*◌, ◌-◌, ◌≤◌}
-use native.Mathlib.Omega.{arith}
-use borrow.Author.Rules.{rules}
-use borrow.Author.Tests.{eqb-true}
-use mathlib.Core.Path.{◌≡◌, refl, sym, ◌∙◌}
-use mathlib.Core.Logic.{⊎_elim}
-use lib.Dec.{eqb}
-use lib.ListN.{length, get_or}
-use Rattle.simulation.proofs.Sets.{all_take}
+use mathlib.Core.Path.{◌≡◌}
+use lib.ListN.{length}
 use Rattle.listing.specs.Placed.{table_changes, Placed}
-use Rattle.listing.proofs.Placing.{placed-start, node-short, table_none, table_same, table_wrote, table-passed}
 use Rattle.session.specs.Limits.{max_states}
 use Rattle.change_lists.proofs.write_changes.Given as goal
 

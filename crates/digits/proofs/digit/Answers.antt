@@ -1,5 +1,4 @@
 -- Each range of bytes by its law.
-use borrow.Author.Rules.{rules}
 use mathlib.Core.Path.{sym}
 use Rattle.frames.proofs.Hex.{digit_low, digit_decimal, digit_between, digit-letter, digit_high}
 use Rattle.digits.proofs.digit.Goals as goal

@@ -1,5 +1,4 @@
 -- Four digits fit 16 bits.
-use borrow.Author.Rules.{rules}
 use Rattle.frames.proofs.Hex.{number_fits}
 use Rattle.digits.proofs.half.Goals as goal
 

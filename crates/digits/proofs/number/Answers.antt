@@ -1,8 +1,5 @@
-use Prim.Native.Nat.{◌-◌}
-use borrow.Author.Rules.{rules}
 use native.Mathlib.Omega.{arith}
-use lib.ListN.{length}
-use Rattle.frames.proofs.Hex.{Reading, digit-fits, reading-start, reading-more, reading-end, reading-fits}
+use Rattle.frames.proofs.Hex.{digit-fits, reading-start, reading-more, reading-end, reading-fits}
 use Rattle.digits.proofs.number.Goals as goal
 
 pub loop-k-init : goal.loop-k-init

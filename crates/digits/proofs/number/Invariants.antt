@@ -1,9 +1,7 @@
 -- The digits read so far, and what the rest makes of them. Eight fit 32 bits.
 use Prim.Native.Nat.{◌-◌}
-use borrow.Author.Rules.{rules}
-use native.Mathlib.Omega.{arith}
 use lib.ListN.{length}
-use Rattle.frames.proofs.Hex.{Reading, digit-fits, reading-start, reading-more, reading-end, reading-fits}
+use Rattle.frames.proofs.Hex.{Reading}
 use Rattle.digits.proofs.number.Given as goal
 
 abbrev pub invariant-loop-k : goal.invariant-loop-k

@@ -1,7 +1,6 @@
 -- The mask keeps the four bits of the digit.
 use Prim.Native.Nat.{◌*◌, ◌/◌, ◌^◌}
 use mathlib.Core.Path.{◌∙◌}
-use borrow.Author.Rules.{rules}
 use lib.Bits.{and_mask}
 use Rattle.frames.proofs.Written.{place_is}
 use Rattle.digits.proofs.place.Goals as goal

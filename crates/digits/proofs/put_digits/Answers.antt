@@ -3,8 +3,7 @@ use native.Mathlib.Omega.{arith}
 use mathlib.Core.Path.{◌≡◌, ◌∙◌}
 use lib.Bits.{and_le_r}
 use lib.ListN.{length, length-set}
-use borrow.Author.Rules.{rules}
-use Rattle.frames.proofs.Written.{Writing, place-fits, writing_start, writing_next, writing_more, writing_end}
+use Rattle.frames.proofs.Written.{place-fits, writing_start, writing_next, writing_more, writing_end}
 use Rattle.digits.proofs.Fours.{writing_four, writing_rest}
 use Rattle.digits.proofs.put_digits.Goals as goal
 use Rattle.digits.proofs.put_digits.Goals.{At-loop-left, At-loop-left-2}

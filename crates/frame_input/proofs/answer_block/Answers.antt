@@ -1,5 +1,4 @@
 -- The memory is refused, or the block is walked over.
-use borrow.Author.Rules.{rules}
 use mathlib.Core.Path.{refl}
 use Rattle.frames.specs.Machine.{Memory, memory}
 use Rattle.frames.proofs.Passing.{unbroken_input, block_refused, block-passed-over}

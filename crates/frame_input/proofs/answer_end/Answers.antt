@@ -1,5 +1,4 @@
 -- The memory is refused, no line was begun, or the line begun is answered.
-use borrow.Author.Rules.{rules}
 use mathlib.Core.Path.{refl, sym}
 use lib.Seq.{length-take-le}
 use Rattle.frames.specs.Machine.{Memory, memory}

@@ -1,5 +1,4 @@
 -- The front's memory, and then the machine's.
-use borrow.Author.Rules.{rules}
 use Rattle.frames.specs.Machine.{Memory, memory}
 use Rattle.frames.proofs.Passing.{rule-front, rule-others}
 use Rattle.frame_input.proofs.input_rule.Goals as goal

@@ -1,17 +1,10 @@
 -- Each turn takes a line, or the rest of the block.
-use borrow.Author.Rules.{rules}
-use native.Mathlib.Omega.{arith}
-use Prim.Native.Nat.{ℕ, ◌-◌, ◌<◌, ◌≤◌}
-use mathlib.Core.Path.{◌≡◌, refl, sym, ◌∙◌}
-use mathlib.Core.Logic.{inl, inr}
-use mathlib.Core.List.{List}
+use Prim.Native.Nat.{◌-◌}
+use mathlib.Core.Path.{◌≡◌}
 use lib.ListN.{length}
-use lib.Seq.{length-take-le}
-use borrow.Author.Tests.{leb-true, leb-false}
-use Rattle.frames.specs.Machine.{Memory, memory, output_size}
-use Rattle.frames.specs.Blocks.{Point, point, GoesOn}
-use Rattle.frames.proofs.Fronts.{keeps-inside}
-use Rattle.frames.proofs.Passing.{SameLengths, Upto, pass_start, pass_open, part, part-passed, part-fits, part-long, pass_line, pass_stops, gathered_at}
+use Rattle.frames.specs.Machine.{memory}
+use Rattle.frames.specs.Blocks.{point}
+use Rattle.frames.proofs.Passing.{Upto}
 use Rattle.frame_input.proofs.pass_over.Given as goal
 
 abbrev pub invariant-loop-at : goal.invariant-loop-at

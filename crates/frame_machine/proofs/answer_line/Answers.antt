@@ -1,5 +1,4 @@
 -- The frame at its moment.
-use borrow.Author.Rules.{rules}
 use native.Mathlib.Omega.{arith}
 use Rattle.frames.specs.Machine.{Memory, memory}
 use Rattle.frames.proofs.Takes.{Passed, rules-passed, answers-before, answers-after}

@@ -1,5 +1,4 @@
 -- The rules of the memory, and then the line.
-use borrow.Author.Rules.{rules}
 use mathlib.Core.Path.{sym, ◌∙◌}
 use Rattle.frames.specs.Machine.{Memory, memory}
 use Rattle.frames.proofs.Takes.{taken_refused, taken-line}

@@ -1,5 +1,4 @@
 -- Two fields of four digits.
-use borrow.Author.Rules.{rules}
 use native.Mathlib.Omega.{arith}
 use Rattle.frames.proofs.Kinded.{some-digits, edge_wrong, insert-right, delete_right}
 use Rattle.frame_reading.proofs.edge_frame.Goals as goal

@@ -1,5 +1,4 @@
 -- One field of four digits.
-use borrow.Author.Rules.{rules}
 use native.Mathlib.Omega.{arith}
 use Rattle.frames.proofs.Kinded.{some-digits, node_wrong, node-right}
 use Rattle.frame_reading.proofs.node_frame.Goals as goal

@@ -1,11 +1,9 @@
 -- A line of two digits and more, all of them digits, is told by its kind.
-use borrow.Author.Rules.{rules}
 use native.Mathlib.Omega.{arith}
 use Prim.Native.Nat.{◌-◌}
 use mathlib.Core.Path.{◌≡◌, sym, ◌∙◌, ap, ap₂}
 use Rattle.frames.specs.Frames as f
 use mathlib.Core.Bool.{true, not}
-use borrow.Author.Tests.{not-false}
 use lib.ListN.{length, drop, length-take, length-drop}
 use lib.Seq.{length-take-le, take_all}
 use Rattle.frames.specs.Digits as d

@@ -1,5 +1,4 @@
 -- Each field lies between two places.
-use borrow.Author.Rules.{rules}
 use native.Mathlib.Omega.{arith}
 use Prim.Native.Nat.{◌+◌}
 use Rattle.frames.proofs.Kinded.{some-digits, field_between}

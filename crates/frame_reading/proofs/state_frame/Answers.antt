@@ -1,5 +1,4 @@
 -- Links of four digits, from the first field on, plain or inverted.
-use borrow.Author.Rules.{rules}
 use Rattle.frames.proofs.Kinded.{state_wrong, state-right}
 use Rattle.frame_reading.proofs.state_frame.Goals as goal
 

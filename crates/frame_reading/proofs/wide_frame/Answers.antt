@@ -1,5 +1,4 @@
 -- The inversion byte, and links of eight digits after it.
-use borrow.Author.Rules.{rules}
 use native.Mathlib.Omega.{arith}
 use mathlib.Core.Path.{◌∙◌}
 use Rattle.frames.proofs.Kinded.{some-digits, wide_wrong, wide_other, wide-right}

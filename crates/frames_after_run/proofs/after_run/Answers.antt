@@ -1,5 +1,4 @@
 -- Each frame by its function.
-use borrow.Author.Rules.{rules}
 use Rattle.frames.proofs.Takes.{printed-front, late}
 use Rattle.frames_after_run.proofs.after_run.Goals as goal
 

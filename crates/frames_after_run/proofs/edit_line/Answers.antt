@@ -1,5 +1,4 @@
 -- The edit, and its answer.
-use borrow.Author.Rules.{rules}
 use native.Mathlib.Omega.{arith}
 use Rattle.frames.proofs.Few.{edited-few}
 use Rattle.frames.proofs.Takes.{printed-front}

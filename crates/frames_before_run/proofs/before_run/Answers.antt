@@ -1,5 +1,4 @@
 -- Each frame by its function.
-use borrow.Author.Rules.{rules}
 use Rattle.frames.proofs.Takes.{printed-front, early}
 use Rattle.frames_before_run.proofs.before_run.Goals as goal
 

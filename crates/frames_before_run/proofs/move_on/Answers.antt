@@ -1,5 +1,4 @@
 -- An accepted run moves the moment on.
-use borrow.Author.Rules.{rules}
 use mathlib.Core.Path.{sym, ap}
 use Rattle.promises.specs.declared.Answer.{Answer}
 use Rattle.promises.specs.Answers.{told}

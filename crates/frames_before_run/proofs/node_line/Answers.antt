@@ -1,8 +1,6 @@
 -- A node is kept while there are fewer than there may be.
-use borrow.Author.Rules.{rules}
 use borrow.Author.Tests.{le-leb, lt-leb}
 use mathlib.Core.Path.{refl}
-use native.Mathlib.Omega.{arith}
 use lib.ListN.{get_or}
 use Rattle.session.specs.Limits.{max_nodes}
 use Rattle.frames.proofs.Takes.{printed-front}

@@ -1,5 +1,4 @@
 -- The load of what was read, the moment after it, and the answer.
-use borrow.Author.Rules.{rules}
 use native.Mathlib.Omega.{arith}
 use mathlib.Core.Path.{subst}
 use Rattle.promises.specs.Rules.{Given}

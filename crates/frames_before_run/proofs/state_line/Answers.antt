@@ -1,5 +1,4 @@
 -- A state is kept while there are fewer than there may be.
-use borrow.Author.Rules.{rules}
 use borrow.Author.Tests.{le-leb, lt-leb}
 use native.Mathlib.Omega.{arith}
 use Prim.Native.Nat.{ℕ, ◌+◌, ◌^◌, ◌%◌}

@@ -1,8 +1,5 @@
-use Prim.Native.Nat.{◌-◌}
-use borrow.Author.Rules.{rules}
 use native.Mathlib.Omega.{arith}
-use lib.ListN.{length}
-use Rattle.frames.proofs.Fronts.{keeps-long, Sofar, sofar_start, sofar_more, sofar_line, sofar_over}
+use Rattle.frames.proofs.Fronts.{keeps-long, sofar_start, sofar_more, sofar_line, sofar_over}
 use Rattle.line_gathering.proofs.gather.Goals as goal
 
 pub loop-next-init : goal.loop-next-init

@@ -1,9 +1,7 @@
 -- A byte taken is kept after those before it, and the line feed leaves the loop.
 use Prim.Native.Nat.{◌-◌}
-use borrow.Author.Rules.{rules}
-use native.Mathlib.Omega.{arith}
 use lib.ListN.{length}
-use Rattle.frames.proofs.Fronts.{keeps-long, Sofar, sofar_start, sofar_more, sofar_line, sofar_over}
+use Rattle.frames.proofs.Fronts.{Sofar}
 use Rattle.line_gathering.proofs.gather.Given as goal
 
 abbrev pub invariant-loop-next : goal.invariant-loop-next

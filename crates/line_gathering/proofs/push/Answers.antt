@@ -1,5 +1,4 @@
 -- There is room for the byte, or the front is full.
-use borrow.Author.Rules.{rules}
 use native.Mathlib.Omega.{arith}
 use Rattle.frames.proofs.Fronts.{keeps_byte, keeps-full}
 use Rattle.line_gathering.proofs.push.Goals as goal

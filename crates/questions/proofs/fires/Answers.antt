@@ -1,5 +1,4 @@
 -- `fires` meets its contract: where no rule is broken, the answer tells the firing that was read.
-use borrow.Author.Rules.{rules}
 use mathlib.Core.Path.{◌≡◌, sym, ◌∙◌}
 use mathlib.Core.Bool.{true}
 use Rattle.session.specs.Layout.{in_layout}

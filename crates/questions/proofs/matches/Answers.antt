@@ -1,5 +1,4 @@
 -- `matches` meets its contract: where no rule is broken, the mark is the bit that was read.
-use borrow.Author.Rules.{rules}
 use Prim.Native.Nat.{◌-◌}
 use native.Mathlib.Omega.{arith}
 use mathlib.Core.Path.{◌≡◌, sym, ◌∙◌}

@@ -1,5 +1,4 @@
 -- `order` meets its contract: where no rule is broken, the walk over the links held is the order.
-use borrow.Author.Rules.{rules}
 use native.Mathlib.Omega.{arith}
 use mathlib.Core.Path.{◌≡◌, sym, ◌∙◌, ap}
 use mathlib.Core.Bool.{true}

@@ -1,5 +1,4 @@
 -- `pair_rule` meets its contract: what breaks no rule of all questions is tested by the last, in three steps.
-use borrow.Author.Rules.{rules}
 use native.Mathlib.Omega.{arith}
 use mathlib.Core.Path.{◌≡◌, sym, ◌∙◌}
 use mathlib.Core.Bool.{true}

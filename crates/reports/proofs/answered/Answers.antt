@@ -1,5 +1,4 @@
 -- The answer tells the firing that was read.
-use borrow.Author.Rules.{rules}
 use mathlib.Core.Path.{sym, ◌∙◌}
 use Rattle.promises.specs.declared.Firing.TheVariants.{Fires, Silent}
 use Rattle.reports.proofs.Reported.{tells}

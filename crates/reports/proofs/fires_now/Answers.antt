@@ -1,5 +1,4 @@
 -- Firing is read from the marks and the links of the session.
-use borrow.Author.Rules.{rules}
 use native.Mathlib.Omega.{arith}
 use mathlib.Core.Path.{◌∙◌}
 use Rattle.session.proofs.Decoded.{Bounded, layout_limits}

@@ -1,6 +1,4 @@
 -- Every state is gathered, or State One is not, or the reached ones are.
-use borrow.Author.Rules.{rules}
-use borrow.Author.Tests.{not-true}
 use mathlib.Core.Path.{sym, ◌∙◌}
 use Rattle.reports.proofs.Fired.{fired-all, fired-none, fired-reached}
 use Rattle.reports.proofs.reached_marked.Goals as goal

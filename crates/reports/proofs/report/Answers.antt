@@ -5,7 +5,6 @@ use Rattle.session.specs.Limits.{marks_at, max_nodes}
 use Rattle.session.proofs.Decoded.{Bounded, layout_limits}
 use Rattle.reports.proofs.Held.{held-few}
 use Rattle.reports.proofs.Reported.{reported}
-use borrow.Author.Rules.{rules}
 use Rattle.reports.proofs.report.Goals as goal
 use Rattle.reports.proofs.report.Goals.{Start}
 

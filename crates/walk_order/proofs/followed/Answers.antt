@@ -4,7 +4,7 @@ use mathlib.Core.Path.{◌≡◌, sym, ◌∙◌}
 use mathlib.Core.Bool.{false}
 use Rattle.bits.specs.Word.{members}
 use Rattle.walk_order.specs.Walks.{Ready}
-use Rattle.walk_order.proofs.Walks.{Following, following_start, following_old, following_new, ready-room}
+use Rattle.walk_order.proofs.Walks.{following_start, following_old, following_new, ready-room}
 use Rattle.walk_order.proofs.followed.Goals as goal
 use Rattle.walk_order.proofs.followed.Goals.{In-loop-i, then-not-has, else-not-has}
 

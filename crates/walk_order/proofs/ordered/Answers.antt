@@ -1,5 +1,4 @@
 -- `ordered` meets its contract.
-use borrow.Author.Rules.{rules}
 use Rattle.walk_order.proofs.Walks.{start-ready, order-held}
 use Rattle.walk_order.proofs.ordered.Goals as goal
 
