@@ -12,7 +12,7 @@ use borrow.Author.Tests.{ltb-false, lt-ltb, le-ltb}
 use Rattle.simulation.proofs.Sets.{clash}
 use Rattle.session.specs.Limits.{max_changes}
 use Rattle.promises.specs.Answers.{accepted, refused}
-use Rattle.promises.specs.Rules.{rule, verdict}
+use Rattle.promises.specs.Rules.{verdict}
 use Rattle.promises.proofs.Verdicts.{accepts-or, verdict_pass, verdict_skip, row-passed, row-broken}
 use Rattle.frames.specs.declared.Progress.{Progress}
 use Rattle.frames.specs.declared.Taken.TheVariants as T
