@@ -6,7 +6,6 @@ use lib.Seq.{length-take-le}
 use borrow.Author.Tests.{not-false}
 use Rattle.std.proofs.KnownBytes.{Appends-trans}
 use Rattle.simulation.proofs.Sets.{clash}
-use Rattle.frames.specs.Machine.{memory}
 use Rattle.frames.proofs.Passing.{fresh-passed, end-written}
 use Rattle.frames.proofs.Inputs.{leads-end, prints-program}
 use Rattle.trigger.proofs.answer_input.Goals as goal
