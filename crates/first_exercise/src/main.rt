@@ -21,22 +21,23 @@ fn show_changes(rt: &impl Print, list: &[i32]) -> io::Result<()> {
 }
 
 // Whether the trigger fires, in a word.
-fn word(firing: Firing) -> &'static str {
+fn show_firing(rt: &impl Print, firing: Firing) -> io::Result<()> {
     match firing {
-        Firing::Fires => "fires",
-        Firing::Silent => "silent",
+        Firing::Fires => print!(rt; " fires"),
+        Firing::Silent => print!(rt; " silent"),
     }
 }
 
 // The answer to a load or an edit, and the changes that it lists at the front of the room.
 fn show(rt: &impl Print, call: &str, answer: Answer, room: &[i32]) -> io::Result<()> {
+    print!(rt; "{call}")?;
     match answer {
         Answer::Accepted(report) => {
-            let firing = word(report.firing);
+            show_firing(rt, report.firing)?;
             let trials = report.trials;
-            println!(rt; "{call} {firing}, pairs tried: {trials}")?;
+            println!(rt; ", pairs tried: {trials}")?;
         }
-        Answer::Refused(rule) => println!(rt; "{call} refused by rule {rule}")?,
+        Answer::Refused(rule) => println!(rt; " refused by rule {rule}")?,
     }
     show_changes(rt, matching::changed_part(room, answer))
 }
@@ -49,7 +50,11 @@ fn ask(rt: &impl Print, session: &[u32]) -> io::Result<()> {
         Standing::Refused(_) => {}
     }
     match matching::fires(session) {
-        FiringAnswer::Now(firing) => println!(rt; "the trigger: {}", word(firing))?,
+        FiringAnswer::Now(firing) => {
+            print!(rt; "the trigger:")?;
+            show_firing(rt, firing)?;
+            println!(rt; "")?;
+        }
         FiringAnswer::Refused(_) => {}
     }
     let walk = matching::order(session);

@@ -47,11 +47,11 @@ module _ (xs : List ℕ) (h : in_layout xs ≡ true) where
 
   pub fresh-met : (ms : List ℕ) → ms ≡ take max_nodes (drop marks_at xs) → (word v able new : ℕ) → members able ≡ admitted_at xs v
       → members new ≡ minus (members able) (members (get_or ms v 0)) → overlaps word new ≡ fresh_among xs word v
-  fresh-met ms ms-is word v able new able-is New-is = ap (λ (X : Set). any_below set_bits (λ u. members word u && X u)) (fun_ext at)
+  fresh-met ms ms-is word v able new able-is new_is = ap (λ (X : Set). any_below set_bits (λ u. members word u && X u)) (fun_ext at)
     where
       at : (u : ℕ) → members new u ≡ (ltb u (states (trigger_of xs)) && fresh (trigger_of xs) (graph_of xs) (marks_of xs) u v)
       at u =
-          ap (λ (X : Set). X u) New-is
+          ap (λ (X : Set). X u) new_is
           ∙ ap₂ (λ (x : Bool) (m : Marks). x && not (m u v)) (ap (λ (X : Set). X u) able-is) (ap marked ms-is ∙ held-marks xs h)
           ∙ and_assoc (ltb u (states t)) (admits t g u v) (not (marks_of xs u v))
 

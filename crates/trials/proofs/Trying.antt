@@ -79,7 +79,7 @@ module _ (xs : List ℕ) (h : in_layout xs ≡ true) where
 
   module _ (a b : ℕ) (links ms : List ℕ) (links-is : links ≡ (trigger_of xs).links) (ms-is : ms ≡ take max_nodes (drop marks_at xs))
       (at-end able at-start new : ℕ) (end_is : members at-end ≡ admitted_at xs b) (able-is : members able ≡ links_to links at-end)
-      (start_is : members at-start ≡ admitted_at xs a) (New-is : members new ≡ minus (members at-start) (members (get_or ms a 0))) where
+      (start_is : members at-start ≡ admitted_at xs a) (new_is : members new ≡ minus (members at-start) (members (get_or ms a 0))) where
     -- the states that admit a node
     end-admits : (u : ℕ) → members at-end u ≡ (ltb u (states (trigger_of xs)) && admits (trigger_of xs) (graph_of xs) u b)
     end-admits u = ap (λ (X : Set). X u) end_is
@@ -89,7 +89,7 @@ module _ (xs : List ℕ) (h : in_layout xs ≡ true) where
 
     new-fresh : (u : ℕ) → members new u ≡ ((ltb u (states (trigger_of xs)) && admits (trigger_of xs) (graph_of xs) u a) && not (marks_of xs u a))
     new-fresh u =
-        ap (λ (X : Set). X u) New-is
+        ap (λ (X : Set). X u) new_is
         ∙ ap₂ (λ (x : Bool) (m : Marks). x && not (m u a)) (start-admits u) (ap marked ms-is ∙ held-marks xs h)
 
     able_links : (u : ℕ) → members able u ≡ (ltb u (length links) && any_below set_bits (λ o. members (get_or links u 0) o && members at-end o))

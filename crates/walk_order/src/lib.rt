@@ -61,7 +61,8 @@ pub fn followed(states: u32, walk: Walk) -> Walk
     let mut i: u32 = 0;
     while i < states {
         let held = w.visited;
-        if !bits::has(held, i) {
+        let missed = !bits::has(held, i);
+        if missed {
             w = written(w, i);
         }
         i += 1;

@@ -6,7 +6,7 @@ use Rattle.bits.specs.Word.{members}
 use Rattle.walk_order.specs.Walks.{Ready}
 use Rattle.walk_order.proofs.Walks.{following_start, following_old, following_new, ready-room}
 use Rattle.walk_order.proofs.followed.Goals as goal
-use Rattle.walk_order.proofs.followed.Goals.{In-loop-i, then-not-has, else-not-has}
+use Rattle.walk_order.proofs.followed.Goals.{In-loop-i, then-missed, else-missed}
 
 ready : (c : In-loop-i) → members c.loop-i.w.visited c.loop-i.i ≡ false
     → Ready c.args.states c.loop-i.i c.loop-i.w
@@ -23,18 +23,18 @@ loop-i-init c =
 
 pub written-w-requires : goal.written-w-requires
 written-w-requires c =
-    let r = ready (goal.at.written-w-requires c).In-loop-i (sym c.has.ensures ∙ c.if-not-has.true) in
+    let r = ready (goal.at.written-w-requires c).In-loop-i (sym c.has-missed.ensures ∙ c.if-missed.true) in
     (omega (arith, ready-room _ _ _ r), search rules)
 
 pub loop-i-preserved : goal.loop-i-preserved
 loop-i-preserved c =
     let g = c.loop-i.invariant in
     let m = c.loop-i-test.true in
-    let seen = sym c.has.ensures in
-    elim c.if-not-has.branch [
-      | then-not-has w ↦
-          rw w.w-is (following_new _ _ _ _ m g _ (ready (goal.at.loop-i-preserved c).In-loop-i (seen ∙ w.if-not-has.true)) w.written-w.ensures)
-      | else-not-has w ↦ rw w.w-is (following_old _ _ _ _ m g (seen ∙ w.if-not-has.false))
+    let seen = sym c.has-missed.ensures in
+    elim c.if-missed.branch [
+      | then-missed w ↦
+          rw w.w-is (following_new _ _ _ _ m g _ (ready (goal.at.loop-i-preserved c).In-loop-i (seen ∙ w.if-missed.true)) w.written-w.ensures)
+      | else-missed w ↦ rw w.w-is (following_old _ _ _ _ m g (seen ∙ w.if-missed.false))
     ]
 
 pub returns : goal.returns
