@@ -94,7 +94,8 @@ pub extern "C" fn trigger_fires(session: &[u32]) -> u64
 pub extern "C" fn trigger_order(session: &[u32], states: &mut [u8]) -> u64
     ensures { OrderWritten session.now states.old result states.new }
 {
-    if states.len() < session::MAX_STATES {
+    let short = states.len() < session::MAX_STATES;
+    if short {
         return 3;
     }
     let found = matching::order(session);
