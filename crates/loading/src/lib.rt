@@ -93,7 +93,8 @@ pub fn load(
         starts,
         ends,
     );
-    if broken != 0 {
+    let turned_back = broken != 0;
+    if turned_back {
         return Answer::Refused(broken);
     }
     write_sections(

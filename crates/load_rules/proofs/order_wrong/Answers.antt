@@ -1,13 +1,9 @@
-use Prim.Native.Nat.{ℕ, suc, ◌+◌, ◌-◌, ◌≤◌}
-use borrow.Author.Rules.{rules}
+use Prim.Native.Nat.{suc, ◌+◌, ◌-◌}
 use native.Mathlib.Omega.{arith}
 use mathlib.Core.Path.{◌≡◌, sym, ap, ◌∙◌}
 use mathlib.Core.Bool.{not}
-use mathlib.Core.List.{List}
-use lib.ListN.{length, get_or}
-use Rattle.simulation.specs.Sets.{Set}
-use Rattle.simulation.proofs.Folds.{Folded, fold_start, fold_pass, fold_fault, fold_end}
-use Rattle.promises.specs.Rules.{precedes}
+use lib.ListN.{length}
+use Rattle.simulation.proofs.Folds.{fold_start, fold_pass, fold_fault, fold_end}
 use Rattle.load_rules.proofs.order_wrong.Invariants.{rises}
 use Rattle.load_rules.proofs.order_wrong.Goals as goal
 use Rattle.load_rules.proofs.order_wrong.Goals.{then-not-comes_before, else-not-comes_before}

@@ -1,5 +1,4 @@
 -- A refusal writes nothing; else the sections are written, solved, and the marks, the list and the answer made.
-use borrow.Author.Rules.{rules}
 use native.Mathlib.Omega.{arith}
 use Prim.Native.Nat.{ℕ, ◌<◌, ◌^◌}
 use mathlib.Core.Path.{◌≡◌, refl, sym, ◌∙◌, ap}
@@ -35,15 +34,15 @@ samples_fit c = halves c.args.samples.now (λ i. omega (arith, c.type_inv.sample
 
 -- no rule is broken
 passed : (c : After-write_sections) → verdict (load_rules (length c.args.session.now) (length c.args.changes.now) (loaded c)) ≡ 0
-passed c = sym c.load_rule-broken.ensures ∙ c.if-broken-ne0.false
+passed c = sym c.load_rule-broken.ensures ∙ c.if-turned_back.false
 
 layout : (c : After-write_sections) → in_layout c.write_sections.new.session ≡ true
 layout c =
     load-layout (loaded c) c.args.session.now (length c.args.changes.now) (passed c) (masks_fit c) (values_fit c) (samples_fit c)
     c.write_sections.new.session c.write_sections.ensures
 
-pub returns-then-broken-ne0 : goal.returns-then-broken-ne0
-returns-then-broken-ne0 c =
+pub returns-then-turned_back : goal.returns-then-turned_back
+returns-then-turned_back c =
     let a = c.args in
     record {
       words = (
@@ -52,7 +51,7 @@ returns-then-broken-ne0 c =
         halves a.samples.now (λ i. omega (arith, c.type_inv.samples i)),
       );
       refuses = λ bad. record { answer = ap refused c.load_rule-broken.ensures; session = refl; room = refl };
-      accepts = λ ok. absurd (c.if-broken-ne0.true (c.load_rule-broken.ensures ∙ ok));
+      accepts = λ ok. absurd (c.if-turned_back.true (c.load_rule-broken.ensures ∙ ok));
     }
 
 pub write_sections-requires : goal.write_sections-requires
@@ -60,7 +59,7 @@ write_sections-requires c =
     let a = c.args in
     load_elsewhere (length a.session.now) (length a.changes.now)
     (given a.masks.now a.values.now a.links.now a.inverted a.samples.now a.starts.now a.ends.now)
-    (sym c.load_rule-broken.ensures ∙ c.if-broken-ne0.false) max_changes (omega arith)
+    (sym c.load_rule-broken.ensures ∙ c.if-turned_back.false) max_changes (omega arith)
 
 pub solve-trials-requires : goal.solve-trials-requires
 solve-trials-requires c =

@@ -1,5 +1,4 @@
 -- The admitted pairs of what the session holds, refined from all nodes, are the greatest simulation.
-use borrow.Author.Rules.{rules}
 use mathlib.Core.Path.{refl}
 use native.Mathlib.Omega.{arith}
 use Rattle.session.specs.Limits.{max_nodes}
