@@ -17,10 +17,8 @@ use Rattle.listing.specs.Changes.{changes}
 use Rattle.listing.specs.Order.{order}
 use Rattle.listing.proofs.Orders.{order-length}
 use Rattle.listing.proofs.Lists.{changes-none}
-use Rattle.promises.specs.declared.Answer.{Answer}
-use Rattle.promises.specs.declared.StateOrder.{StateOrder}
 use Rattle.promises.specs.Standing.{stands, fires}
-use Rattle.promises.specs.Answers.{Outcome, Summary, accepted, refused, outcome, told, changes_told, fires_told, handed_back}
+use Rattle.promises.specs.Answers.{Answer, OrderAnswer, Outcome, Summary, accepted, refused, outcome, told, changes_told, fires_told, handed_back, places_told}
 use Rattle.promises.specs.Rules.{Kind, insertion, deletion, Given, given_trigger, given_graph, edited, verdict, load_rules, edit_rules, question_rules}
 use Rattle.promises.specs.Promises.{Untouched, Reported, load_list, load_trials, Loaded, Edited, Ordered}
 use Rattle.promises.specs.Model.{Model, begun, Edit, model_rules, step}
@@ -119,8 +117,8 @@ edit-carried k s a b c r s' c' p ok =
     }
 
 -- the order told, where no rule is broken, and none where one is
-order-carried : (s : List ℕ) (r : StateOrder) → Ordered s r → verdict (question_rules s []) ≡ 0
-    → take (states (trigger_of s)) r.states ≡ order (trigger_of s)
+order-carried : (s : List ℕ) (r : OrderAnswer) → Ordered s r → verdict (question_rules s []) ≡ 0
+    → take (states (trigger_of s)) (places_told r) ≡ order (trigger_of s)
 order-carried s r p ok =
     let t = trigger_of s in
     let f = layout-facts s (question-passed s [] ok).0 in
@@ -128,7 +126,7 @@ order-carried s r p ok =
     (ap (λ (n : ℕ). take n (section max_states (order t))) (sym (order-length t))
     ∙ take-section max_states (order t) (rw (order-length t) f.trigger.few))
 
-order-refused : (s : List ℕ) (r : StateOrder) → Ordered s r → (verdict (question_rules s []) ≡ 0 → ⊥) → r.states ≡ section max_states []
+order-refused : (s : List ℕ) (r : OrderAnswer) → Ordered s r → (verdict (question_rules s []) ≡ 0 → ⊥) → places_told r ≡ section max_states []
 order-refused s r p bad = rw (p.states, ne_eqb (verdict (question_rules s [])) 0 bad)
 
 pub demand1 : Demand1

@@ -6,8 +6,7 @@ use lib.IntN.{ℤ}
 use lib.ListN.{length, length-append}
 use lib.Seq.{take-append_seam}
 use borrow.Author.Tests.{le-leb}
-use Rattle.promises.specs.declared.Answer.{Answer}
-use Rattle.promises.specs.Answers.{told, changes_told, handed_back}
+use Rattle.promises.specs.Answers.{Answer, told, changes_told, handed_back}
 
 pub handed_back_lem : (list rest : List ℤ) (r : Answer) → changes_told (told r) ≡ length list → handed_back (list ++ rest) r ≡ list
 unfolding handed_back

@@ -9,13 +9,13 @@ use lib.Dec.{ltb}
 use lib.IntN.{ℤ}
 use lib.ListN.{length, drop, length-append}
 use borrow.Author.Tests.{le-ltb, eq-eqb, ne_eqb}
+use Rattle.promises.specs.Answers.{Answer}
 use Rattle.session.specs.Limits.{max_changes, fixed_size}
 use Rattle.session.specs.Trigger.{Trigger, Graph, Marks}
 use Rattle.session.specs.Layout.{image, trigger_of, graph_of, marks_of, in_layout}
 use Rattle.session.proofs.Valid.{TriggerFacts, GraphFacts, trigger-facts, trigger-valid, graph-facts, graph-valid, marks-valid}
 use Rattle.session.proofs.Image.{length-image, drop-image}
 use Rattle.session.proofs.Decoded.{trigger-image, graph-image, marks-image, layout-image}
-use Rattle.promises.specs.declared.Answer.{Answer}
 use Rattle.promises.specs.Standing.{stands}
 use Rattle.promises.specs.Rules.{Given, edited, verdict, graph_rules, load_rules, edit_rules}
 use Rattle.promises.specs.Promises.{Loaded, Edited, Carried}

@@ -13,10 +13,8 @@ use Rattle.session.proofs.Tables.{take-section}
 use Rattle.listing.specs.Changes.{changes}
 use Rattle.listing.specs.Order.{order}
 use Rattle.listing.proofs.Orders.{order-length}
-use Rattle.promises.specs.declared.Answer.{Answer}
-use Rattle.promises.specs.declared.StateOrder.{StateOrder}
 use Rattle.promises.specs.Standing.{stands, fires}
-use Rattle.promises.specs.Answers.{Summary, outcome, accepted, refused, told, told_order, changes_told, handed_back}
+use Rattle.promises.specs.Answers.{Answer, OrderAnswer, Summary, outcome, accepted, refused, told, told_order, changes_told, handed_back, places_told}
 use Rattle.promises.specs.Rules.{Kind, Given, given_trigger, given_graph, edited, verdict, load_rules, edit_rules, question_rules}
 use Rattle.promises.specs.Promises.{load_list, trial_count, Loaded, Edited, Ordered}
 use Rattle.promises.specs.Model.{Model, Edit, model_rules, step, editing, load_summary, edit_list, edit_summary}
@@ -72,10 +70,10 @@ module _ (m : Model) (s : List ℕ) (f : Faithful m s) where
   unfolding verdict
   question = rw (le-ltb (length s) fixed_size f.long, in_layout_lem m s f)
 
-  pub order-told : (r : StateOrder) → Ordered s r → told_order r.answer ≡ accepted (states m.trigger)
+  pub order-told : (r : OrderAnswer) → Ordered s r → told_order r ≡ accepted (states m.trigger)
   order-told r p = p.answer ∙ rw (question, holds-trigger m s f)
 
-  pub order-list : (r : StateOrder) → Ordered s r → take (states m.trigger) r.states ≡ order m.trigger
+  pub order-list : (r : OrderAnswer) → Ordered s r → take (states m.trigger) (places_told r) ≡ order m.trigger
   order-list r p =
       rw (p.states, question, holds-trigger m s f)
       (ap (λ (n : ℕ). take n (section max_states (order t))) (sym (order-length t))

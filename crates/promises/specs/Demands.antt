@@ -6,12 +6,8 @@ use Rattle.session.specs.Reached.{Reached}
 use Rattle.session.specs.Layout.{section, image, valid_trigger, valid_graph, trigger_of, graph_of, marks_of}
 use Rattle.listing.specs.Changes.{changes}
 use Rattle.listing.specs.Order as listing
-use Rattle.promises.specs.declared.Answer.{Answer}
-use Rattle.promises.specs.declared.Standing.{Standing}
-use Rattle.promises.specs.declared.FiringAnswer.{FiringAnswer}
-use Rattle.promises.specs.declared.StateOrder.{StateOrder}
 use Rattle.promises.specs.Standing.{Simulation, stands, fires}
-use Rattle.promises.specs.Answers.{Outcome, accepted, refused, outcome, fires_told, told, told_standing, told_firing, told_order, handed_back}
+use Rattle.promises.specs.Answers.{Answer, FiringAnswer, OrderAnswer, StandingAnswer, Outcome, accepted, refused, outcome, fires_told, told, told_standing, told_firing, told_order, handed_back, places_told}
 use Rattle.promises.specs.Rules.{Kind, insertion, deletion, Given, given_trigger, given_graph, edited, verdict, load_rules, edit_rules, question_rules, pair_rules}
 use Rattle.promises.specs.Promises.{Left, load_list, Loaded, Carried, Edited, Matches, Fires, Ordered}
 use Rattle.promises.specs.Model.{Model, begun, Edit, model_rules, step, freshly, load_summary}
@@ -53,14 +49,14 @@ pub record Demand1 : Type 0 where
       → Loaded x s c r s' c' → Answered (verdict (load_rules (length s) (length c) x)) s c r s' c' (LoadCarried x s c r s' c')
   pub edit : (k : Kind) (s : List ℕ) (a b : ℕ) (c : List ℤ) (r : Answer) (s' : List ℕ) (c' : List ℤ)
       → Edited k s a b c r s' c' → Answered (verdict (edit_rules k s (length c) a b)) s c r s' c' (EditCarried k a b s c r s' c')
-  pub standing : (s : List ℕ) (state v : ℕ) (r : Standing) → Matches s state v r
+  pub standing : (s : List ℕ) (state v : ℕ) (r : StandingAnswer) → Matches s state v r
       → told_standing r ≡ outcome (verdict (pair_rules s state v)) (marks_of s (state - 1) v)
   pub firing : (s : List ℕ) (r : FiringAnswer) → Fires s r
       → told_firing r ≡ outcome (verdict (question_rules s [])) (fires (trigger_of s) (graph_of s) (marks_of s))
-  pub order : (s : List ℕ) (r : StateOrder) → Ordered s r
-      → (told_order r.answer ≡ outcome (verdict (question_rules s [])) (states (trigger_of s)))
-      × (verdict (question_rules s []) ≡ 0 → take (states (trigger_of s)) r.states ≡ listing.order (trigger_of s))
-      × ((verdict (question_rules s []) ≡ 0 → ⊥) → r.states ≡ section max_states [])
+  pub order : (s : List ℕ) (r : OrderAnswer) → Ordered s r
+      → (told_order r ≡ outcome (verdict (question_rules s [])) (states (trigger_of s)))
+      × (verdict (question_rules s []) ≡ 0 → take (states (trigger_of s)) (places_told r) ≡ listing.order (trigger_of s))
+      × ((verdict (question_rules s []) ≡ 0 → ⊥) → places_told r ≡ section max_states [])
 
 -- ---- Demand 2
 

@@ -5,9 +5,8 @@ use Rattle.session.specs.Trigger.{Graph, Marks, states, nodes, edge}
 use Rattle.session.specs.Layout.{trigger_of, graph_of}
 use Rattle.listing.specs.Changes.{size_of}
 use Rattle.listing.specs.Ledger.{ledger, standing, entries, Alternate}
-use Rattle.promises.specs.declared.Answer.{Answer}
 use Rattle.promises.specs.Standing.{stands}
-use Rattle.promises.specs.Answers.{handed_back}
+use Rattle.promises.specs.Answers.{Answer, handed_back}
 use Rattle.promises.specs.Rules.{Kind, Given, verdict, load_rules}
 use Rattle.promises.specs.Promises.{Loaded, Edited}
 

@@ -6,12 +6,8 @@ use Rattle.session.specs.Trigger.{Trigger, Graph, Marks, states, admits}
 use Rattle.session.specs.Layout.{section, below, image, trigger_of, graph_of, marks_of, valid_marks}
 use Rattle.listing.specs.Changes.{changes}
 use Rattle.listing.specs.Order.{order}
-use Rattle.promises.specs.declared.Answer.{Answer}
-use Rattle.promises.specs.declared.Standing.{Standing}
-use Rattle.promises.specs.declared.FiringAnswer.{FiringAnswer}
-use Rattle.promises.specs.declared.StateOrder.{StateOrder}
 use Rattle.promises.specs.Standing.{stands, fires, size, pairs_of, trial_set}
-use Rattle.promises.specs.Answers.{accepted, refused, outcome, told, told_standing, told_firing, told_order}
+use Rattle.promises.specs.Answers.{Answer, FiringAnswer, OrderAnswer, StandingAnswer, accepted, refused, outcome, told, told_standing, told_firing, told_order, places_told}
 use Rattle.promises.specs.Rules.{
   Given,
   given_trigger,
@@ -104,7 +100,7 @@ abbrev pub Deleted : List ℕ → ℕ → ℕ → List ℤ → Answer → List �
 Deleted = Edited deletion
 
 -- "does u stand at v": the mark held, of the state with this number
-abbrev pub Matches : List ℕ → ℕ → ℕ → Standing → Type 0
+abbrev pub Matches : List ℕ → ℕ → ℕ → StandingAnswer → Type 0
 Matches s state v r = told_standing r ≡ outcome (verdict (pair_rules s state v)) (marks_of s (state - 1) v)
 
 -- "does the trigger fire": of the marks held
@@ -112,6 +108,6 @@ abbrev pub Fires : List ℕ → FiringAnswer → Type 0
 Fires s r = told_firing r ≡ outcome (verdict (question_rules s [])) (fires (trigger_of s) (graph_of s) (marks_of s))
 
 -- "what is the walk order": how many states, and their numbers, zeros after them; all zeros where it is refused
-pub record Ordered (s : List ℕ) (r : StateOrder) : Type 0 where
-  pub answer : told_order r.answer ≡ outcome (verdict (question_rules s [])) (states (trigger_of s))
-  pub states : r.states ≡ section max_states (cond (eqb (verdict (question_rules s [])) 0) (order (trigger_of s)) [])
+pub record Ordered (s : List ℕ) (r : OrderAnswer) : Type 0 where
+  pub answer : told_order r ≡ outcome (verdict (question_rules s [])) (states (trigger_of s))
+  pub states : places_told r ≡ section max_states (cond (eqb (verdict (question_rules s [])) 0) (order (trigger_of s)) [])

@@ -1,51 +1,100 @@
 // The types in which the engine's calls answer. What each call promises is defined in specs/.
 #![tactic(auto)]
 
+ghost use Rattle.std.specs.Prelude.{◌≡◌};
+ghost use Rattle.promises.specs.Answers.{firing, number};
+
+use std::error::Error;
+use std::fmt;
+
+// The rules by their numbers. What breaks one or more is refused with the first of them.
+#[derive(Clone, Copy, Debug, PartialEq, Eq)]
+pub enum Refusal {
+    NoFrame = 1,
+    NotNow = 2,
+    MemoryShort = 3,
+    StatesWrong = 4,
+    LinkWrong = 5,
+    NodesWrong = 6,
+    EdgesWrong = 7,
+    EdgeNodeWrong = 8,
+    EdgesUnordered = 9,
+    NotInLayout = 10,
+    NameWrong = 11,
+    EdgePresent = 12,
+    EdgesFull = 13,
+    EdgeAbsent = 14,
+}
+
+impl From<Refusal> for u8 {
+    ghost from_gives = { λ rule n. n ≡ number rule };
+
+    fn from(rule: Refusal) -> u8 {
+        rule as u8
+    }
+}
+
+impl fmt::Display for Refusal {
+    fn fmt<W: fmt::Write>(&self, f: &mut fmt::Formatter<W>) -> fmt::Result {
+        let number = u8::from(*self);
+        write!(f, "rule {number}")
+    }
+}
+
+impl Error for Refusal {}
+
 // Whether every state that is reached from State One stands at some node.
-#[derive(Clone, Copy)]
+#[derive(Clone, Copy, Debug, PartialEq, Eq)]
 pub enum Firing {
     Fires,
     Silent,
 }
 
-#[derive(Clone, Copy)]
+impl From<bool> for Firing {
+    ghost from_gives = { λ fires r. firing r ≡ fires };
+
+    fn from(fires: bool) -> Firing {
+        if fires { Firing::Fires } else { Firing::Silent }
+    }
+}
+
+impl From<Firing> for bool {
+    ghost from_gives = { λ answer r. r ≡ firing answer };
+
+    fn from(answer: Firing) -> bool {
+        answer == Firing::Fires
+    }
+}
+
+impl fmt::Display for Firing {
+    fn fmt<W: fmt::Write>(&self, f: &mut fmt::Formatter<W>) -> fmt::Result {
+        match self {
+            Firing::Fires => write!(f, "fires"),
+            Firing::Silent => write!(f, "silent"),
+        }
+    }
+}
+
+#[derive(Clone, Copy, Debug, PartialEq, Eq)]
 pub struct Report {
     pub firing: Firing,
     pub trials: u32,
     pub changes: u32,
 }
 
-// The answer to a load or an edit; a refusal has the number of the first rule broken.
-#[derive(Clone, Copy)]
-pub enum Answer {
-    Accepted(Report),
-    Refused(u8),
-}
+// The answer to a load or an edit.
+pub type Answer = Result<Report, Refusal>;
 
 // Whether a state stands at a node.
-#[derive(Clone, Copy)]
+#[derive(Clone, Copy, Debug, PartialEq, Eq)]
 pub enum Standing {
     Stands,
     Absent,
-    Refused(u8),
-}
-
-// Whether the trigger fires.
-#[derive(Clone, Copy)]
-pub enum FiringAnswer {
-    Now(Firing),
-    Refused(u8),
 }
 
 // The states in depth-first order: how many, and their numbers; places past them are zero.
-#[derive(Clone, Copy)]
-pub enum OrderAnswer {
-    Listed(u8),
-    Refused(u8),
-}
-
-#[derive(Drop)]
+#[derive(Clone, Copy, Debug, PartialEq, Eq)]
 pub struct StateOrder {
-    pub answer: OrderAnswer,
+    pub count: u8,
     pub states: [u8; session::MAX_STATES],
 }
