@@ -41,9 +41,9 @@ FiringAnswer = Result Firing Refusal
 abbrev pub OrderAnswer : Type 0
 OrderAnswer = Result StateOrder Refusal
 
--- what a test of rules answers: 0 where none is broken
-abbrev pub first_broken : Result Unit Refusal → ℕ
-first_broken (Ok done) = 0
+-- the rule that an answer names: 0 where none is broken
+abbrev pub first_broken : {A : Type 0} → Result A Refusal → ℕ
+first_broken (Ok a) = 0
 first_broken (Err rule) = number rule
 
 pub data Outcome (A : Type 0) : Type 0 where
