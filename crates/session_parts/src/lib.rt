@@ -1,7 +1,7 @@
 // The parts of a session that is in layout, what it admits, and its marks stored.
 #![tactic(auto)]
 
-ghost use Rattle.std.specs.Prelude.{ℕ, ◌+◌, ◌<◌, ◌≤◌, ◌≡◌, true, take, drop, length, get_or, ◌++◌};
+ghost use Rattle.std.specs.Prelude.{List, ℕ, ◌+◌, ◌<◌, ◌≤◌, ◌≡◌, true, take, drop, length, get_or, ◌++◌};
 ghost use Rattle.session.specs.Limits.{marks_at, max_nodes, fixed_size};
 ghost use Rattle.session.specs.Layout.{part, trigger_of, graph_of, in_layout, image};
 ghost use Rattle.pair_tables.specs.Tables.{marked};
@@ -10,6 +10,7 @@ ghost use Rattle.bits.specs.Word.{members};
 ghost use Rattle.session_parts.specs.Inside.{Inside};
 ghost use Rattle.session_parts.specs.Admission.{turned_in, admitted_at, AdmittedPairs};
 
+use std::marker::Model;
 use pair_tables::{admitted, admitted_at, turned_states};
 
 // The part of a memory that begins at a place and has so many words.
@@ -21,91 +22,117 @@ pub fn part_of(session: &[u32], at: usize, used: usize) -> &[u32]
     &session[at..end]
 }
 
-pub fn masks_of(session: &[u32]) -> &[u32]
-    requires { in_layout session.now ≡ true }
-    ensures { result.now ≡ (trigger_of session.now).masks }
-{
-    part_of(session, session::MASKS_AT, session[0] as usize)
+// A session that is in layout, to be read. Contracts see its words.
+#[derive(Drop)]
+pub struct Held<'a> {
+    words: &'a [u32],
 }
 
-pub fn values_of(session: &[u32]) -> &[u32]
-    requires { in_layout session.now ≡ true }
-    ensures { result.now ≡ (trigger_of session.now).values }
-{
-    part_of(session, session::VALUES_AT, session[0] as usize)
+impl<'a> Model for Held<'a> {
+    ghost Value = { List ℕ };
+
+    ghost view = { λ h. h.words.now };
+
+    ghost invariant = { λ h. in_layout h.words.now ≡ true };
 }
 
-pub fn links_of(session: &[u32]) -> &[u32]
-    requires { in_layout session.now ≡ true }
-    ensures { result.now ≡ (trigger_of session.now).links }
-{
-    part_of(session, session::LINKS_AT, session[0] as usize)
-}
+#[tactic(auto, using(session::proofs::Decoded::layout_limits), unfolding(session::specs::Layout::trigger_of, session::specs::Layout::graph_of))]
+impl<'a> Held<'a> {
+    pub fn of(session: &'a [u32]) -> Held<'a>
+        requires { in_layout session.now ≡ true }
+        ensures { result ≡ session.now }
+    {
+        Held { words: session }
+    }
 
-// The set of inverted states.
-pub fn inverted_of(session: &[u32]) -> u32
-    requires { in_layout session.now ≡ true }
-    ensures { result ≡ (trigger_of session.now).inverted }
-{
-    session[session::INVERTED_AT]
-}
+    pub fn states(&self) -> u32
+        ensures is { result ≡ get_or self.now 0 0 }
+        ensures held { in_layout self.now ≡ true }
+    {
+        self.words[0]
+    }
 
-pub fn samples_of(session: &[u32]) -> &[u32]
-    requires { in_layout session.now ≡ true }
-    ensures { result.now ≡ (graph_of session.now).samples }
-{
-    part_of(session, session::SAMPLES_AT, session[1] as usize)
-}
+    pub fn nodes(&self) -> usize
+        ensures is { result ≡ get_or self.now 1 0 }
+        ensures held { in_layout self.now ≡ true }
+    {
+        self.words[1] as usize
+    }
 
-pub fn edges_of(session: &[u32]) -> &[u32]
-    requires { in_layout session.now ≡ true }
-    ensures { result.now ≡ (graph_of session.now).edges }
-{
-    part_of(session, session::EDGES_AT, session[2] as usize)
-}
+    pub fn masks(&self) -> &'a [u32]
+        ensures is { result.now ≡ (trigger_of self.now).masks }
+        ensures held { in_layout self.now ≡ true }
+    {
+        part_of(self.words, session::MASKS_AT, self.words[0] as usize)
+    }
 
-// The mark words, a word for each node.
-pub fn marks_of(session: &[u32]) -> &[u32]
-    requires { in_layout session.now ≡ true }
-    ensures { result.now ≡ take max_nodes (drop marks_at session.now) }
-{
-    &session[session::MARKS_AT..session::FIXED_SIZE]
-}
+    pub fn values(&self) -> &'a [u32]
+        ensures is { result.now ≡ (trigger_of self.now).values }
+        ensures held { in_layout self.now ≡ true }
+    {
+        part_of(self.words, session::VALUES_AT, self.words[0] as usize)
+    }
 
-// The states whose answer is turned round. They are asked for once, and handed to those who ask what is admitted, of one node or of all.
-pub fn turned_of(session: &[u32]) -> u32
-    requires { in_layout session.now ≡ true }
-    ensures { members result ≡ turned_in session.now }
-{
-    turned_states(masks_of(session), inverted_of(session))
-}
+    pub fn links(&self) -> &'a [u32]
+        ensures is { result.now ≡ (trigger_of self.now).links }
+        ensures held { in_layout self.now ≡ true }
+    {
+        part_of(self.words, session::LINKS_AT, self.words[0] as usize)
+    }
 
-// Fills a table that is zero with the admitted pairs; how many they are.
-pub fn admitted_pairs(session: &[u32], turned: u32, table: &mut [u32]) -> u32
-    requires { (in_layout session.now ≡ true) × (members turned ≡ turned_in session.now) × (length table.old ≡ max_nodes) × ((v : ℕ) → get_or table.old v 0 ≡ 0) }
-    ensures { AdmittedPairs session.now result table.new }
-{
-    admitted(
-        masks_of(session),
-        values_of(session),
-        turned,
-        samples_of(session),
-        table,
-    )
-}
+    // The set of inverted states.
+    pub fn inverted(&self) -> u32
+        ensures is { result ≡ (trigger_of self.now).inverted }
+        ensures held { in_layout self.now ≡ true }
+    {
+        self.words[session::INVERTED_AT]
+    }
 
-// The states that admit a node.
-pub fn admitting(session: &[u32], turned: u32, node: u32) -> u32
-    requires { (in_layout session.now ≡ true) × (members turned ≡ turned_in session.now) × (node < nodes (graph_of session.now)) }
-    ensures { members result ≡ admitted_at session.now node }
-{
-    let samples = samples_of(session);
-    admitted_at(
-        masks_of(session),
-        values_of(session),
-        turned,
-        samples[node as usize],
-    )
+    pub fn samples(&self) -> &'a [u32]
+        ensures is { result.now ≡ (graph_of self.now).samples }
+        ensures held { in_layout self.now ≡ true }
+    {
+        part_of(self.words, session::SAMPLES_AT, self.words[1] as usize)
+    }
+
+    pub fn edges(&self) -> &'a [u32]
+        ensures is { result.now ≡ (graph_of self.now).edges }
+        ensures held { in_layout self.now ≡ true }
+    {
+        part_of(self.words, session::EDGES_AT, self.words[2] as usize)
+    }
+
+    // The mark words, a word for each node.
+    pub fn marks(&self) -> &'a [u32]
+        ensures is { result.now ≡ take max_nodes (drop marks_at self.now) }
+        ensures held { in_layout self.now ≡ true }
+    {
+        &self.words[session::MARKS_AT..session::FIXED_SIZE]
+    }
+
+    // The states whose answer is turned round. They are asked for once, and handed to those who ask what is admitted, of one node or of all.
+    pub fn turned(&self) -> u32
+        ensures { members result ≡ turned_in self.now }
+    {
+        turned_states(self.masks(), self.inverted())
+    }
+
+    // Fills a table that is zero with the admitted pairs; how many they are.
+    pub fn admitted_pairs(&self, turned: u32, table: &mut [u32]) -> u32
+        requires { (members turned ≡ turned_in self.now) × (length table.old ≡ max_nodes) × ((v : ℕ) → get_or table.old v 0 ≡ 0) }
+        ensures { AdmittedPairs self.now result table.new }
+    {
+        admitted(self.masks(), self.values(), turned, self.samples(), table)
+    }
+
+    // The states that admit a node.
+    pub fn admitting(&self, turned: u32, node: u32) -> u32
+        requires { (members turned ≡ turned_in self.now) × (node < nodes (graph_of self.now)) }
+        ensures { members result ≡ admitted_at self.now node }
+    {
+        let samples = self.samples();
+        admitted_at(self.masks(), self.values(), turned, samples[node as usize])
+    }
 }
 
 // Writes a table to the session as its marks.
