@@ -15,42 +15,41 @@ use edges::held::remove_edge;
 use editing::{Effect, refine_at};
 use pair_tables::{pairs_in, take_away};
 use refinement::unmet;
-use session_parts::{edges_of, links_of, marks_of, store_marks};
+use session_parts::{Held, store_marks};
 
 // Whether each mark at a node keeps its support: one look by the marks alone, before any index is built.
-pub fn steady(session: &[u32], node: u32) -> bool
-    requires { (in_layout session.now ≡ true) × (node < nodes (graph_of session.now)) }
+pub fn steady(session: &Held, node: u32) -> bool
+    requires { node < nodes (graph_of session.now) }
     ensures { result ≡ steady_at session.now node }
 {
-    let marks = marks_of(session);
+    let marks = session.marks();
     let word = marks[node as usize];
     if word == 0 {
         return true;
     }
-    let edges = edges_from(edges_of(session), node as usize);
-    unmet(word, links_of(session), edges, marks, marks) == 0
+    let edges = edges_from(session.edges(), node as usize);
+    unmet(word, session.links(), edges, marks, marks) == 0
 }
 
-// Refines a table with the marks of the session from the node where an edge went.
-pub fn cease(session: &[u32], start: u32, table: &mut [u32])
-    requires { (in_layout session.now ≡ true) × (start < nodes (graph_of session.now)) × (table.old ≡ take max_nodes (drop marks_at session.now)) }
+// Puts the marks that keep their support without the edge into a table: the marks, refined from the node where it went.
+pub fn cease(session: &Held, start: u32, table: &mut [u32])
+    requires { (start < nodes (graph_of session.now)) × (length table.old ≡ max_nodes) }
     ensures { Ceased session.now start table.new }
 {
+    sections::copy_words(table, session.marks());
     let settled = [0u32; session::MAX_NODES];
     refine_at(session, start, &settled, table);
 }
 
 // How many pairs are marked and not in the table.
-pub fn ceased_pairs(session: &[u32], table: &[u32]) -> u32
-    requires { (in_layout session.now ≡ true) × (length table.now ≡ max_nodes) }
+pub fn ceased_pairs(session: &Held, table: &[u32]) -> u32
+    requires { length table.now ≡ max_nodes }
     ensures { result ≡ ceased (trigger_of session.now) (graph_of session.now) (marks_of session.now) (marked table.now) }
 {
-    let states = session[0];
-    let nodes = session[1] as usize;
     let mut gone = [0u32; session::MAX_NODES];
-    sections::copy_words(&mut gone, marks_of(session));
+    sections::copy_words(&mut gone, session.marks());
     take_away(&mut gone, table);
-    pairs_in(&gone, states, nodes)
+    pairs_in(&gone, session.states(), session.nodes())
 }
 
 // Deletes an edge that breaks no rule, and corrects the marks. Before they change, they are saved.
@@ -59,18 +58,18 @@ pub fn delete_edit(session: &mut [u32], start: u32, end: u32, before: &mut [u32]
     ensures { Done deletion (trigger_of session.old) (graph_of session.old) (marks_of session.old) (marks_of session.new) start end result.trials session.old session.new × Saved session.old session.new before.new result.calm }
 {
     remove_edge(session, start, end);
-    let unmoved = steady(session, start);
+    let held = Held::of(session);
+    let unmoved = steady(&held, start);
     if unmoved {
         return Effect {
             trials: 0,
             calm: true,
         };
     }
-    sections::copy_words(before, marks_of(session));
+    sections::copy_words(before, held.marks());
     let mut table = [0u32; session::MAX_NODES];
-    sections::copy_words(&mut table, before);
-    cease(session, start, &mut table);
-    let trials = ceased_pairs(session, &table);
+    cease(&held, start, &mut table);
+    let trials = ceased_pairs(&held, &table);
     store_marks(session, &table);
     Effect {
         trials,

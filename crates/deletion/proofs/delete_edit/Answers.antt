@@ -1,6 +1,6 @@
 -- The edge is taken out; the marks stay where they are steady, or those that cease are taken away.
 use Prim.Native.Nat.{◌<◌}
-use mathlib.Core.Path.{◌≡◌, sym, ◌∙◌, ap}
+use mathlib.Core.Path.{◌≡◌, refl, sym, ◌∙◌, ap}
 use mathlib.Core.Bool.{true}
 use lib.ListN.{length, take, drop}
 use Rattle.session.specs.Limits.{marks_at, max_nodes}
@@ -29,11 +29,11 @@ inside c = deleted_start c.args.session.now c.args.start c.args.end c.requires.0
 
 -- the marks that were
 saved : (c : After-copy_words) → c.copy_words.new.place ≡ take max_nodes (drop marks_at c.remove_edge.new.session)
-saved c = c.copy_words.ensures ∙ c.marks_of.ensures
+saved c = c.copy_words.ensures ∙ rw c.of-held.ensures at c.marks.ensures.is
 
 -- what refinement leaves
 left : (c : After-cease) → Ceased c.remove_edge.new.session c.args.start c.cease.new.table
-left c = c.cease.ensures
+left c = rw c.of-held.ensures at c.cease.ensures
 
 pub remove_edge-requires : goal.remove_edge-requires
 remove_edge-requires c =
@@ -42,32 +42,28 @@ remove_edge-requires c =
       end_value = (deletion_passed (graph_of c.args.session.now) c.args.start c.args.end c.requires.1).2;
     }
 
+pub of-held-requires : goal.of-held-requires
+of-held-requires c = layout (goal.at.of-held-requires c).After-remove_edge
+
 pub steady-unmoved-requires : goal.steady-unmoved-requires
-steady-unmoved-requires c =
-    (layout (goal.at.steady-unmoved-requires c).After-remove_edge, inside (goal.at.steady-unmoved-requires c).After-remove_edge)
+steady-unmoved-requires c = rw c.of-held.ensures (inside (goal.at.steady-unmoved-requires c).After-remove_edge)
 
 pub returns-then-unmoved : goal.returns-then-unmoved
 returns-then-unmoved c =
     let a = c.args in (
-      deleted_same a.session.now a.start a.end c.requires.0 c.requires.1 _ (moved (goal.at.returns-then-unmoved c).After-remove_edge) (sym c.steady-unmoved.ensures ∙ c.if-unmoved.true),
+      deleted_same a.session.now a.start a.end c.requires.0 c.requires.1 _ (moved (goal.at.returns-then-unmoved c).After-remove_edge) (rw c.of-held.ensures at (sym c.steady-unmoved.ensures ∙ c.if-unmoved.true)),
       saved_calm deletion a.session.now a.start a.end c.requires.0 c.requires.1 _ (moved (goal.at.returns-then-unmoved c).After-remove_edge) _,
     )
 
-pub marks_of-requires : goal.marks_of-requires
-marks_of-requires c =
-    layout (goal.at.marks_of-requires c).After-remove_edge
-
 pub copy_words-requires : goal.copy_words-requires
 copy_words-requires c =
-    ap length c.marks_of.ensures ∙ marks-long c.remove_edge.new.session (layout (goal.at.copy_words-requires c).After-remove_edge) ∙ sym c.requires.2
+    rw c.of-held.ensures at (ap length c.marks.ensures.is) ∙ marks-long c.remove_edge.new.session (layout (goal.at.copy_words-requires c).After-remove_edge) ∙ sym c.requires.2
 
 pub cease-requires : goal.cease-requires
-cease-requires c =
-    (layout (goal.at.cease-requires c).After-remove_edge, inside (goal.at.cease-requires c).After-remove_edge, c.copy_words-2.ensures ∙ saved (goal.at.cease-requires c).After-copy_words)
+cease-requires c = (rw c.of-held.ensures (inside (goal.at.cease-requires c).After-remove_edge), refl)
 
 pub ceased_pairs-trials-requires : goal.ceased_pairs-trials-requires
-ceased_pairs-trials-requires c =
-    (layout (goal.at.ceased_pairs-trials-requires c).After-remove_edge, (left (goal.at.ceased_pairs-trials-requires c).After-cease).long)
+ceased_pairs-trials-requires c = (left (goal.at.ceased_pairs-trials-requires c).After-cease).long
 
 pub store_marks-requires : goal.store_marks-requires
 store_marks-requires c =
@@ -81,6 +77,6 @@ pub returns : goal.returns
 returns c =
     let a = c.args in (
       deleted_stored a.session.now a.start a.end c.requires.0 c.requires.1 _ (moved (goal.at.returns c).After-remove_edge) _ (left (goal.at.returns c).After-cease)
-          _ c.store_marks.new.session c.ceased_pairs-trials.ensures c.store_marks.ensures,
+          _ c.store_marks.new.session (rw c.of-held.ensures at c.ceased_pairs-trials.ensures) c.store_marks.ensures,
       saved-before deletion a.session.now a.start a.end c.requires.0 c.requires.1 _ (moved (goal.at.returns c).After-remove_edge) _ _ (saved (goal.at.returns c).After-copy_words),
     )
