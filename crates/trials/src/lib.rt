@@ -5,7 +5,7 @@ ghost use Rattle.std.specs.Prelude.{◌≡◌, true, ℕ, ◌<◌, ◌≤◌, le
 ghost use Rattle.bits.specs.Word.{members};
 ghost use Rattle.session.specs.Limits.{max_nodes, max_edges, edge_numbers};
 ghost use Rattle.session.specs.Trigger.{nodes, pattern};
-ghost use Rattle.session.specs.Layout.{trigger_of, graph_of, marks_of, in_layout, below};
+ghost use Rattle.session.specs.Layout.{trigger_of, graph_of, marks_of, below};
 ghost use Rattle.edge_indexes.specs.Indexes.{Indexed, Started, starts_size};
 ghost use Rattle.promises.specs.Standing.{trial_set, pairs_of};
 ghost use Rattle.editing.specs.Steps.{Holds, fresh_pairs, seeds_of, fresh_among, alone_at, marked_pairs};
@@ -22,53 +22,53 @@ use growth::grow;
 use links::{CALLERS, index_callers, linking};
 use pair_tables::take_away;
 use refinement::refine;
-use session_parts::{admitted_pairs, admitting, edges_of, links_of, marks_of, turned_of};
+use session_parts::Held;
 use worklist::{WAITING_WORDS, call_all, put_in};
 
 // The states that begin the trial set at the edge's start.
-pub fn seeds_at(session: &[u32], start: u32, end: u32) -> u32
-    requires { (in_layout session.now ≡ true) × (start < nodes (graph_of session.now)) × (end < nodes (graph_of session.now)) }
+pub fn seeds_at(session: &Held, start: u32, end: u32) -> u32
+    requires { (start < nodes (graph_of session.now)) × (end < nodes (graph_of session.now)) }
     ensures { members result ≡ seeds_of session.now start end }
 {
-    let marks = marks_of(session);
-    let turned = turned_of(session);
-    let at_end = admitting(session, turned, end);
-    let able = linking(links_of(session), at_end);
-    let at_start = admitting(session, turned, start);
+    let marks = session.marks();
+    let turned = session.turned();
+    let at_end = session.admitting(turned, end);
+    let able = linking(session.links(), at_end);
+    let at_start = session.admitting(turned, start);
     able & bits::difference(at_start, marks[start as usize])
 }
 
 // Puts the pairs that are admitted and not marked into a table that is zero.
-pub fn fresh_pairs(session: &[u32], table: &mut [u32])
-    requires { (in_layout session.now ≡ true) × (length table.old ≡ max_nodes) × ((v : ℕ) → get_or table.old v 0 ≡ 0) }
+pub fn fresh_pairs(session: &Held, table: &mut [u32])
+    requires { (length table.old ≡ max_nodes) × ((v : ℕ) → get_or table.old v 0 ≡ 0) }
     ensures { Holds session.now (fresh_pairs session.now) table.new }
 {
-    admitted_pairs(session, turned_of(session), table);
-    take_away(table, marks_of(session));
+    session.admitted_pairs(session.turned(), table);
+    take_away(table, session.marks());
 }
 
 // Puts the trial set that the seeds begin into a table that is zero.
 pub fn try_pairs(
-    session: &[u32],
+    session: &Held,
     start: u32,
     seeds: u32,
     heads: &[u32],
     nexts: &[u32],
     table: &mut [u32],
 )
-    requires session_value { (in_layout session.now ≡ true) × (start < nodes (graph_of session.now)) × (length table.old ≡ max_nodes) × ((v : ℕ) → get_or table.old v 0 ≡ 0) }
+    requires session_value { (start < nodes (graph_of session.now)) × (length table.old ≡ max_nodes) × ((v : ℕ) → get_or table.old v 0 ≡ 0) }
     requires indexed { Indexed (graph_of session.now).edges heads.now nexts.now × ((b : ℕ) × (members seeds ≡ seeds_of session.now start b)) }
     ensures { (b : ℕ) → members seeds ≡ seeds_of session.now start b → Holds session.now (trial_set (trigger_of session.now) (graph_of session.now) (marks_of session.now) start b) table.new }
 {
-    let nodes = session[1] as usize;
+    let nodes = session.nodes();
     let mut fresh = [0u32; session::MAX_NODES];
     fresh_pairs(session, &mut fresh);
     let mut waiting = [0u32; WAITING_WORDS];
     put_in(&mut waiting, start as usize);
     table[start as usize] = seeds;
     grow(
-        links_of(session),
-        edges_of(session),
+        session.links(),
+        session.edges(),
         nodes,
         &fresh,
         table,
@@ -79,22 +79,21 @@ pub fn try_pairs(
 }
 
 // Whether a state of the word is fresh at the node.
-pub fn fresh_among(session: &[u32], turned: u32, word: u32, node: u32) -> bool
-    requires { (in_layout session.now ≡ true) × (members turned ≡ turned_in session.now) × (node < nodes (graph_of session.now)) }
+pub fn fresh_among(session: &Held, turned: u32, word: u32, node: u32) -> bool
+    requires { (members turned ≡ turned_in session.now) × (node < nodes (graph_of session.now)) }
     ensures { result ≡ fresh_among session.now word node }
 {
-    let marks = marks_of(session);
-    let able = admitting(session, turned, node);
+    let marks = session.marks();
+    let able = session.admitting(turned, node);
     bits::meet(word, bits::difference(able, marks[node as usize]))
 }
 
 // Whether no node with an edge to the start has such a state.
-pub fn alone(session: &[u32], start: u32, word: u32) -> bool
-    requires { in_layout session.now ≡ true }
+pub fn alone(session: &Held, start: u32, word: u32) -> bool
     ensures { result ≡ alone_at session.now start word }
 {
-    let edges = edges_of(session);
-    let turned = turned_of(session);
+    let edges = session.edges();
+    let turned = session.turned();
     let mut k = 0;
     while k < edges.len() {
         let edge = edges[k];
@@ -125,25 +124,25 @@ pub fn starts_for(trials: u32, edges: &[u32], firsts: &mut [u32]) -> usize
 }
 
 // Refines a table of trials beside the marks: what is left begins to stand. Their number only decides whether an index is built.
-pub fn begin(session: &[u32], trials: u32, heads: &[u32], nexts: &[u32], table: &mut [u32])
-    requires session_value { (in_layout session.now ≡ true) × (length table.old ≡ max_nodes) × Inside session.now table.old }
+pub fn begin(session: &Held, trials: u32, heads: &[u32], nexts: &[u32], table: &mut [u32])
+    requires session_value { (length table.old ≡ max_nodes) × Inside session.now table.old }
     requires indexed { Indexed (graph_of session.now).edges heads.now nexts.now }
     ensures { Holds session.now (refined (system (pattern (trigger_of session.now) (graph_of session.now))) (marked_pairs session.now) (pairs_of (trigger_of session.now) (graph_of session.now) (marked table.old))) table.new }
 {
-    let nodes = session[1] as usize;
+    let nodes = session.nodes();
     let mut waiting = [0u32; WAITING_WORDS];
     call_all(table, &mut waiting);
-    let edges = edges_of(session);
+    let edges = session.edges();
     let mut firsts = [0u32; STARTS];
     let places = starts_for(trials, edges, &mut firsts);
-    let links = links_of(session);
+    let links = session.links();
     let mut callers = [0u32; CALLERS];
     index_callers(links, &mut callers);
     refine(
         links,
         edges,
         nodes,
-        marks_of(session),
+        session.marks(),
         table,
         &mut waiting,
         &callers,
@@ -154,10 +153,10 @@ pub fn begin(session: &[u32], trials: u32, heads: &[u32], nexts: &[u32], table: 
 }
 
 // Refines trials that are all at one node beside the marks: what is left begins to stand.
-pub fn begin_at(session: &[u32], node: u32, table: &mut [u32])
-    requires session_value { (in_layout session.now ≡ true) × (node < nodes (graph_of session.now)) × (length table.old ≡ max_nodes) × Inside session.now table.old }
+pub fn begin_at(session: &Held, node: u32, table: &mut [u32])
+    requires session_value { (node < nodes (graph_of session.now)) × (length table.old ≡ max_nodes) × Inside session.now table.old }
     requires by_index { (v : ℕ) → (v ≡ node → ⊥) → get_or table.old v 0 ≡ 0 }
     ensures { Holds session.now (refined (system (pattern (trigger_of session.now) (graph_of session.now))) (marked_pairs session.now) (pairs_of (trigger_of session.now) (graph_of session.now) (marked table.old))) table.new }
 {
-    refine_at(session, node, marks_of(session), table);
+    refine_at(session, node, session.marks(), table);
 }

@@ -22,14 +22,14 @@ pub fresh_among-requires : goal.fresh_among-requires
 fresh_among-requires c =
     let xs = c.args.session.now in
     let k = c.loop-k.k in
-    (c.requires, c.turned_of-turned.ensures, omega (arith, (held_sound xs c.requires (trigger_of xs).links _ refl c.edges_of-edges.ensures).starts k c.loop-k-test.true, (layout-facts xs c.requires).counts.1))
+    (c.turned-turned.ensures, omega (arith, (held_sound xs c.edges-edges.ensures.held (trigger_of xs).links _ refl c.edges-edges.ensures.is).starts k c.loop-k-test.true, (layout-facts xs c.edges-edges.ensures.held).counts.1))
 
 pub returns-then-fresh_among : goal.returns-then-fresh_among
 returns-then-fresh_among c =
     let a = c.args in
     let k = c.loop-k.k in
-    let is = c.edges_of-edges.ensures in
-    alone-found a.session.now c.requires a.start a.word k (subst (λ (es : List ℕ). k < length es) is c.loop-k-test.true)
+    let is = c.edges-edges.ensures.is in
+    alone-found a.session.now c.edges-edges.ensures.held a.start a.word k (subst (λ (es : List ℕ). k < length es) is c.loop-k-test.true)
     (subst (λ (es : List ℕ). get_or es k 0 % max_nodes ≡ a.start) is c.if-edge-start.true)
     (subst (λ (es : List ℕ). fresh_among a.session.now a.word (get_or es k 0 / max_nodes) ≡ true) is (sym c.fresh_among.ensures ∙ c.if-fresh_among.true))
 
@@ -37,7 +37,7 @@ pub loop-k-preserved : goal.loop-k-preserved
 loop-k-preserved c =
     let a = c.args in
     let k = c.loop-k.k in
-    let is = c.edges_of-edges.ensures in (
+    let is = c.edges-edges.ensures.is in (
       search rules,
       λ i.
           alone-more a.session.now i a.start a.word k (c.loop-k.invariant.1 i)
@@ -51,4 +51,4 @@ loop-k-preserved c =
 pub returns : goal.returns
 returns c =
     let a = c.args in
-    alone-all a.session.now c.requires a.start a.word c.loop-k.k (omega (arith, c.loop-k.invariant.0, c.loop-k-test.false) ∙ ap length c.edges_of-edges.ensures) (c.loop-k.invariant.1 c.requires)
+    alone-all a.session.now c.edges-edges.ensures.held a.start a.word c.loop-k.k (omega (arith, c.loop-k.invariant.0, c.loop-k-test.false) ∙ ap length c.edges-edges.ensures.is) (c.loop-k.invariant.1 c.edges-edges.ensures.held)

@@ -15,11 +15,11 @@ use Rattle.trials.proofs.begin_at.Goals as goal
 pub refine_at-requires : goal.refine_at-requires
 refine_at-requires c =
     let p = c.requires.session_value in
-    (p.0, omega (arith, p.1), ap length c.marks_of.ensures ∙ marks-long c.args.session.now p.0, p.2, p.3)
+    (omega (arith, p.0), ap length c.marks.ensures.is ∙ marks-long c.args.session.now c.marks.ensures.held, p.1, p.2)
 
 pub returns : goal.returns
 returns c =
     let n = states (trigger_of c.args.session.now) in
-    rw (ap marked c.marks_of.ensures ∙ held-marks c.args.session.now c.requires.session_value.0) at
+    rw (ap marked c.marks.ensures.is ∙ held-marks c.args.session.now c.marks.ensures.held) at
     (c.refine_at.ensures.exact
     (λ p m away. clash m (ap (λ (w : ℕ). members w (p % n)) (c.requires.by_index (p / n) away) ∙ zero-members (p % n))))

@@ -9,10 +9,10 @@ use Rattle.trials.proofs.fresh_among.Goals as goal
 pub bounds-marks-node : goal.bounds-marks-node
 bounds-marks-node c =
     let xs = c.args.session.now in
-    rw c.marks_of-marks.ensures (omega (arith, marks-long xs c.requires.0, c.requires.2, (layout-facts xs c.requires.0).graph.few))
+    rw c.marks-marks.ensures.is (omega (arith, marks-long xs c.marks-marks.ensures.held, c.requires.1, (layout-facts xs c.marks-marks.ensures.held).graph.few))
 
 pub returns : goal.returns
 returns c =
     c.meet.ensures
-    ∙ fresh-met c.args.session.now c.requires.0 _ c.marks_of-marks.ensures c.args.word c.args.node c.admitting-able.result
+    ∙ fresh-met c.args.session.now c.marks-marks.ensures.held _ c.marks-marks.ensures.is c.args.word c.args.node c.admitting-able.result
     c.difference.result c.admitting-able.ensures c.difference.ensures

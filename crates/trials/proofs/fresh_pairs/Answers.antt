@@ -7,9 +7,9 @@ use Rattle.trials.proofs.fresh_pairs.Goals as goal
 
 pub take_away-requires : goal.take_away-requires
 take_away-requires c =
-    ap length c.marks_of.ensures ∙ marks-long c.args.session.now c.requires.0 ∙ sym c.admitted_pairs.ensures.long
+    ap length c.marks.ensures.is ∙ marks-long c.args.session.now c.marks.ensures.held ∙ sym c.admitted_pairs.ensures.long
 
 pub returns : goal.returns
 returns c =
     let away = c.take_away.ensures in
-    fresh-held c.args.session.now c.requires.0 _ _ c.admitted_pairs.ensures _ away.0 (rw c.marks_of.ensures at away.1)
+    fresh-held c.args.session.now c.marks.ensures.held _ _ c.admitted_pairs.ensures _ away.0 (rw c.marks.ensures.is at away.1)

@@ -2,52 +2,41 @@
 use native.Mathlib.Omega.{arith}
 use mathlib.Core.Path.{refl, ◌∙◌}
 use lib.ListN.{length-set, replicate}
-use Rattle.session.proofs.Decoded.{Bounded, LayoutFacts, layout_limits, layout-facts}
+use Rattle.session.proofs.Decoded.{LayoutFacts, layout-facts}
 use Rattle.pair_tables.proofs.Zeros.{zeros}
 use Rattle.refinement.proofs.Systems.{held_sound}
 use Rattle.trials.proofs.Trying.{seeded, seeds-fit, trial-held}
 use Rattle.session.specs.Limits.{max_nodes}
 use Rattle.worklist.specs.Waiting.{waiting_words}
 use Rattle.trials.proofs.try_pairs.Goals as goal
-use Rattle.trials.proofs.try_pairs.Goals.{Start}
+use Rattle.trials.proofs.try_pairs.Goals.{After-nodes-nodes}
 
-abbrev bounded : (c : Start) → Bounded c.args.session.now
-bounded c = layout_limits c.args.session.now c.requires.session_value.0
-
-abbrev facts : (c : Start) → LayoutFacts c.args.session.now
-facts c = layout-facts c.args.session.now c.requires.session_value.0
-
-pub bounds-session-1 : goal.bounds-session-1
-bounds-session-1 c =
-    omega (arith, bounded (goal.at.bounds-session-1 c).Start)
-
-pub overflow_cast-nodes : goal.overflow_cast-nodes
-overflow_cast-nodes c =
-    omega (arith, bounded (goal.at.overflow_cast-nodes c).Start)
+abbrev facts : (c : After-nodes-nodes) → LayoutFacts c.args.session.now
+facts c = layout-facts c.args.session.now c.nodes-nodes.ensures.held
 
 pub fresh_pairs-requires : goal.fresh_pairs-requires
 fresh_pairs-requires c =
-    (c.requires.session_value.0, refl, zeros max_nodes)
+    (refl, zeros max_nodes)
 
 pub put_in-requires : goal.put_in-requires
 put_in-requires c =
-    (refl, omega (arith, c.requires.session_value.1, (facts (goal.at.put_in-requires c).Start).graph.few))
+    (refl, omega (arith, c.requires.session_value.0, (facts (goal.at.put_in-requires c).After-nodes-nodes).graph.few))
 
 pub bounds-table-start : goal.bounds-table-start
 bounds-table-start c =
-    omega (arith, c.requires.session_value.1, c.requires.session_value.2, (facts (goal.at.bounds-table-start c).Start).graph.few)
+    omega (arith, c.requires.session_value.0, c.requires.session_value.1, (facts (goal.at.bounds-table-start c).After-nodes-nodes).graph.few)
 
 pub grow-requires : goal.grow-requires
 grow-requires c =
     let a = c.args in
-    let f = facts (goal.at.grow-requires c).Start in
+    let f = facts (goal.at.grow-requires c).After-nodes-nodes in
     let fresh = c.fresh_pairs.ensures in record {
-      fresh_len = (fresh.long, length-set a.table.now a.start a.seeds ∙ c.requires.session_value.2, c.put_in.ensures.0);
-      sound = (held_sound a.session.now c.requires.session_value.0 _ _ c.links_of.ensures c.edges_of.ensures, rw c.edges_of.ensures c.requires.indexed.0);
+      fresh_len = (fresh.long, length-set a.table.now a.start a.seeds ∙ c.requires.session_value.1, c.put_in.ensures.0);
+      sound = (rw c.nodes-nodes.ensures.is (held_sound a.session.now c.nodes-nodes.ensures.held _ _ c.links.ensures.is c.edges.ensures.is), rw c.edges.ensures.is c.requires.indexed.0);
       by_index = λ u v e.
           let i = fresh.inside u v e in
-          (rw c.links_of.ensures (omega (arith, i.0, f.trigger.links)), omega (arith, i.1, f.counts.1));
-      by_index_2 = seeds-fit a.session.now c.requires.session_value.0 a.start c.requires.indexed.1.0 a.seeds c.requires.session_value.1 c.requires.indexed.1.1 a.table.now c.requires.session_value.2 c.requires.session_value.3
+          (rw c.links.ensures.is (omega (arith, i.0, f.trigger.links)), omega (arith, c.nodes-nodes.ensures.is, i.1, f.counts.1));
+      by_index_2 = seeds-fit a.session.now c.nodes-nodes.ensures.held a.start c.requires.indexed.1.0 a.seeds c.requires.session_value.0 c.requires.indexed.1.1 a.table.now c.requires.session_value.1 c.requires.session_value.2
           c.fresh_pairs.new.table (replicate waiting_words 0) c.put_in.new.waiting fresh c.put_in.ensures.1;
     }
 
@@ -55,6 +44,6 @@ pub returns : goal.returns
 returns c =
     let a = c.args in
     λ b is.
-    trial-held a.session.now c.requires.session_value.0 a.start b _ _ _ _ _ c.links_of.ensures c.edges_of.ensures c.fresh_pairs.ensures
-    (seeded a.session.now c.requires.session_value.0 a.start b a.seeds c.requires.session_value.1 is a.table.now c.requires.session_value.2 c.requires.session_value.3)
-    c.grow.ensures
+    trial-held a.session.now c.nodes-nodes.ensures.held a.start b _ _ _ _ _ c.links.ensures.is c.edges.ensures.is c.fresh_pairs.ensures
+    (seeded a.session.now c.nodes-nodes.ensures.held a.start b a.seeds c.requires.session_value.0 is a.table.now c.requires.session_value.1 c.requires.session_value.2)
+    (rw c.nodes-nodes.ensures.is at c.grow.ensures)
