@@ -15,33 +15,31 @@ use edges::held::insert_edge;
 use editing::Effect;
 use links::linking;
 use pair_tables::{pairs_in, put_together};
-use session_parts::{edges_of, links_of, marks_of, store_marks};
+use session_parts::{Held, store_marks};
 use trials::{alone, begin, begin_at, seeds_at, try_pairs};
 
 // The trial set is grown from the seeds in a table that is zero, by an index that serves its refinement too; how many pairs it has.
-pub fn try_grown(session: &[u32], start: u32, seeds: u32, table: &mut [u32]) -> u32
-    requires session_value { (in_layout session.now ≡ true) × (start < nodes (graph_of session.now)) × (length table.old ≡ max_nodes) × ((v : ℕ) → get_or table.old v 0 ≡ 0) }
+pub fn try_grown(session: &Held, start: u32, seeds: u32, table: &mut [u32]) -> u32
+    requires session_value { (start < nodes (graph_of session.now)) × (length table.old ≡ max_nodes) × ((v : ℕ) → get_or table.old v 0 ≡ 0) }
     requires by_index { (b : ℕ) × (members seeds ≡ seeds_of session.now start b) }
     ensures { (b : ℕ) → members seeds ≡ seeds_of session.now start b → Begun session.now start b table.new result }
 {
-    let states = session[0];
-    let nodes = session[1] as usize;
     let mut heads = [0u32; session::MAX_NODES];
     let mut nexts = [0u32; session::MAX_EDGES];
-    index(edges_of(session), &mut heads, &mut nexts);
+    index(session.edges(), &mut heads, &mut nexts);
     try_pairs(session, start, seeds, &heads, &nexts, table);
-    let trials = pairs_in(table, states, nodes);
+    let trials = pairs_in(table, session.states(), session.nodes());
     begin(session, trials, &heads, &nexts, table);
     trials
 }
 
 // The same; where the seeds are the whole trial set, no index is built.
-pub fn try_out(session: &[u32], start: u32, seeds: u32, table: &mut [u32]) -> u32
-    requires session_value { (in_layout session.now ≡ true) × (start < nodes (graph_of session.now)) × (length table.old ≡ max_nodes) × ((v : ℕ) → get_or table.old v 0 ≡ 0) }
+pub fn try_out(session: &Held, start: u32, seeds: u32, table: &mut [u32]) -> u32
+    requires session_value { (start < nodes (graph_of session.now)) × (length table.old ≡ max_nodes) × ((v : ℕ) → get_or table.old v 0 ≡ 0) }
     requires by_index { (b : ℕ) × (members seeds ≡ seeds_of session.now start b) }
     ensures { (b : ℕ) → members seeds ≡ seeds_of session.now start b → Begun session.now start b table.new result }
 {
-    let able = linking(links_of(session), seeds);
+    let able = linking(session.links(), seeds);
     if !alone(session, start, able) {
         return try_grown(session, start, seeds, table);
     }
@@ -56,7 +54,8 @@ pub fn insert_edit(session: &mut [u32], start: u32, end: u32, before: &mut [u32]
     ensures { Done insertion (trigger_of session.old) (graph_of session.old) (marks_of session.old) (marks_of session.new) start end result.trials session.old session.new × Saved session.old session.new before.new result.calm }
 {
     insert_edge(session, start, end);
-    let seeds = seeds_at(session, start, end);
+    let held = Held::of(session);
+    let seeds = seeds_at(&held, start, end);
     let fruitless = seeds == 0;
     if fruitless {
         return Effect {
@@ -64,10 +63,10 @@ pub fn insert_edit(session: &mut [u32], start: u32, end: u32, before: &mut [u32]
             calm: true,
         };
     }
-    sections::copy_words(before, marks_of(session));
+    sections::copy_words(before, held.marks());
     let mut table = [0u32; session::MAX_NODES];
-    let trials = try_out(session, start, seeds, &mut table);
-    put_together(&mut table, marks_of(session));
+    let trials = try_out(&held, start, seeds, &mut table);
+    put_together(&mut table, held.marks());
     store_marks(session, &table);
     Effect {
         trials,

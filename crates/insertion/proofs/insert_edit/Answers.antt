@@ -32,7 +32,8 @@ near c =
 
 -- what was tried
 begun : (c : After-try_out-trials) → Begun c.insert_edge.new.session c.args.start c.args.end c.try_out-trials.new.table c.try_out-trials.result
-begun c = c.try_out-trials.ensures c.args.end c.seeds_at-seeds.ensures
+begun c =
+    rw c.of-held.ensures at (c.try_out-trials.ensures c.args.end c.seeds_at-seeds.ensures)
 
 -- and what is marked then
 both : (c : After-put_together) (u v : ℕ)
@@ -40,7 +41,7 @@ both : (c : After-put_together) (u v : ℕ)
 both c u v =
     let l = in_layout_lem c.args.session.now c.args.start c.args.end c.requires.0 c.requires.1 c.insert_edge.new.session c.insert_edge.ensures in
     c.put_together.ensures.1 u v
-    ∙ ap (λ (m : Marks). marked c.try_out-trials.new.table u v || m u v) (ap marked c.marks_of-2.ensures ∙ held-marks c.insert_edge.new.session l)
+    ∙ ap (λ (m : Marks). marked c.try_out-trials.new.table u v || m u v) (ap marked (rw c.of-held.ensures at c.marks-2.ensures.is) ∙ held-marks c.insert_edge.new.session l)
 
 pub insert_edge-requires : goal.insert_edge-requires
 insert_edge-requires c =
@@ -51,9 +52,11 @@ insert_edge-requires c =
       session_len_bound = w.3;
     }
 
+pub of-held-requires : goal.of-held-requires
+of-held-requires c = layout (goal.at.of-held-requires c).After-insert_edge
+
 pub seeds_at-seeds-requires : goal.seeds_at-seeds-requires
-seeds_at-seeds-requires c = (
-  layout (goal.at.seeds_at-seeds-requires c).After-insert_edge,
+seeds_at-seeds-requires c = rw c.of-held.ensures (
   near (goal.at.seeds_at-seeds-requires c).After-insert_edge,
   end_near c.args.session.now c.args.start c.args.end c.requires.0 c.requires.1 c.insert_edge.new.session c.insert_edge.ensures,
 )
@@ -63,32 +66,24 @@ returns-then-fruitless c =
     let a = c.args in (
       inserted_same a.session.now a.start a.end c.requires.0 c.requires.1 c.insert_edge.new.session c.insert_edge.ensures
           (λ u.
-          sym (ap (λ (X : Set). X u) c.seeds_at-seeds.ensures) ∙ ap (λ (w : ℕ). members w u) c.if-fruitless.true ∙ zero-members u),
+          sym (ap (λ (X : Set). X u) (rw c.of-held.ensures at c.seeds_at-seeds.ensures)) ∙ ap (λ (w : ℕ). members w u) c.if-fruitless.true ∙ zero-members u),
       saved_calm insertion a.session.now a.start a.end c.requires.0 c.requires.1 c.insert_edge.new.session c.insert_edge.ensures _,
     )
 
-pub marks_of-requires : goal.marks_of-requires
-marks_of-requires c =
-    layout (goal.at.marks_of-requires c).After-insert_edge
-
 pub copy_words-requires : goal.copy_words-requires
 copy_words-requires c =
-    ap length c.marks_of.ensures ∙ marks-long c.insert_edge.new.session (layout (goal.at.copy_words-requires c).After-insert_edge) ∙ sym c.requires.2
+    ap length (rw c.of-held.ensures at c.marks.ensures.is) ∙ marks-long c.insert_edge.new.session (layout (goal.at.copy_words-requires c).After-insert_edge) ∙ sym c.requires.2
 
 pub try_out-trials-requires : goal.try_out-trials-requires
 try_out-trials-requires c =
     record {
-      session_value = (layout (goal.at.try_out-trials-requires c).After-insert_edge, near (goal.at.try_out-trials-requires c).After-insert_edge, refl, zeros max_nodes);
+      session_value = (rw c.of-held.ensures (near (goal.at.try_out-trials-requires c).After-insert_edge), refl, zeros max_nodes);
       by_index = (c.args.end, c.seeds_at-seeds.ensures);
     }
 
-pub marks_of-requires-2 : goal.marks_of-requires-2
-marks_of-requires-2 c =
-    layout (goal.at.marks_of-requires-2 c).After-insert_edge
-
 pub put_together-requires : goal.put_together-requires
 put_together-requires c =
-    ap length c.marks_of-2.ensures ∙ marks-long c.insert_edge.new.session (layout (goal.at.put_together-requires c).After-insert_edge) ∙ sym (begun (goal.at.put_together-requires c).After-try_out-trials).left.long
+    ap length (rw c.of-held.ensures at c.marks-2.ensures.is) ∙ marks-long c.insert_edge.new.session (layout (goal.at.put_together-requires c).After-insert_edge) ∙ sym (begun (goal.at.put_together-requires c).After-try_out-trials).left.long
 
 pub store_marks-requires : goal.store_marks-requires
 store_marks-requires c = (
@@ -109,5 +104,5 @@ returns c =
       inserted_stored a.session.now a.start a.end c.requires.0 c.requires.1 c.insert_edge.new.session c.insert_edge.ensures
           (begun (goal.at.returns c).After-try_out-trials).trials c.try_out-trials.new.table c.put_together.new.table (begun (goal.at.returns c).After-try_out-trials).tried (begun (goal.at.returns c).After-try_out-trials).left (both (goal.at.returns c).After-put_together) c.try_out-trials.result (begun (goal.at.returns c).After-try_out-trials).counted _ c.store_marks.ensures,
       saved-before insertion a.session.now a.start a.end c.requires.0 c.requires.1 c.insert_edge.new.session c.insert_edge.ensures _ _
-          (c.copy_words.ensures ∙ c.marks_of.ensures),
+          (c.copy_words.ensures ∙ rw c.of-held.ensures at c.marks.ensures.is),
     )

@@ -8,13 +8,13 @@ use Rattle.promises.specs.Standing.{trial_set}
 use Rattle.editing.specs.Steps.{Holds}
 use Rattle.session.specs.Limits.{max_nodes}
 use Rattle.insertion.proofs.try_grown.Goals as goal
-use Rattle.insertion.proofs.try_grown.Goals.{After-try_pairs, Start}
+use Rattle.insertion.proofs.try_grown.Goals.{After-edges, After-try_pairs}
 
-abbrev bounded : (c : Start) → Bounded c.args.session.now
-bounded c = layout_limits c.args.session.now c.requires.session_value.0
+abbrev bounded : (c : After-edges) → Bounded c.args.session.now
+bounded c = layout_limits c.args.session.now c.edges.ensures.held
 
-abbrev facts : (c : Start) → LayoutFacts c.args.session.now
-facts c = layout-facts c.args.session.now c.requires.session_value.0
+abbrev facts : (c : After-edges) → LayoutFacts c.args.session.now
+facts c = layout-facts c.args.session.now c.edges.ensures.held
 
 -- the table holds the trial set of some end
 tried : (c : After-try_pairs)
@@ -22,22 +22,10 @@ tried : (c : After-try_pairs)
     Holds xs (trial_set (trigger_of xs) (graph_of xs) (marks_of xs) c.args.start c.requires.by_index.0) c.try_pairs.new.table
 tried c = c.try_pairs.ensures c.requires.by_index.0 c.requires.by_index.1
 
-pub bounds-session-0 : goal.bounds-session-0
-bounds-session-0 c =
-    omega (arith, bounded (goal.at.bounds-session-0 c).Start)
-
-pub bounds-session-1 : goal.bounds-session-1
-bounds-session-1 c =
-    omega (arith, bounded (goal.at.bounds-session-1 c).Start)
-
-pub overflow_cast-nodes : goal.overflow_cast-nodes
-overflow_cast-nodes c =
-    omega (arith, bounded (goal.at.overflow_cast-nodes c).Start)
-
 pub index-requires : goal.index-requires
 index-requires c =
-    rw c.edges_of.ensures (record {
-      edges_len_bound = ((facts (goal.at.index-requires c).Start).graph.few_edges, refl, refl);
+    rw c.edges.ensures.is (record {
+      edges_len_bound = ((facts (goal.at.index-requires c).After-edges).graph.few_edges, refl, refl);
       by_index = zeros max_nodes;
     })
 
@@ -45,21 +33,21 @@ pub try_pairs-requires : goal.try_pairs-requires
 try_pairs-requires c =
     record {
       session_value = c.requires.session_value;
-      indexed = (rw c.edges_of.ensures at c.index.ensures, c.requires.by_index);
+      indexed = (rw c.edges.ensures.is at c.index.ensures, c.requires.by_index);
     }
 
 pub pairs_in-trials-requires : goal.pairs_in-trials-requires
 pairs_in-trials-requires c =
-    let b = bounded (goal.at.pairs_in-trials-requires c).Start in
+    let b = bounded (goal.at.pairs_in-trials-requires c).After-edges in
     let t = tried (goal.at.pairs_in-trials-requires c).After-try_pairs in
-    (b.few_states, b.few_nodes, omega (arith, b.few_nodes, t.long), λ u v e. omega (arith, (t.inside u v e).0, (facts (goal.at.pairs_in-trials-requires c).Start).counts.0))
+    rw (c.states.ensures.is, c.nodes.ensures.is) (b.few_states, b.few_nodes, omega (arith, b.few_nodes, t.long), λ u v e. omega (arith, (t.inside u v e).0, (facts (goal.at.pairs_in-trials-requires c).After-edges).counts.0))
 
 pub begin-requires : goal.begin-requires
 begin-requires c =
     let t = tried (goal.at.begin-requires c).After-try_pairs in
     record {
-      session_value = (c.requires.session_value.0, t.long, t.inside);
-      indexed = rw c.edges_of.ensures at c.index.ensures;
+      session_value = (t.long, t.inside);
+      indexed = rw c.edges.ensures.is at c.index.ensures;
     }
 
 pub returns : goal.returns
@@ -68,5 +56,5 @@ returns c =
       trials = c.try_pairs.new.table;
       tried = c.try_pairs.ensures b is;
       left = c.begin.ensures;
-      counted = c.pairs_in-trials.ensures;
+      counted = rw (c.states.ensures.is, c.nodes.ensures.is) at c.pairs_in-trials.ensures;
     }
