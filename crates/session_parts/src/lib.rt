@@ -5,13 +5,14 @@ ghost use Rattle.std.specs.Prelude.{List, ℕ, ◌+◌, ◌<◌, ◌≤◌, ◌�
 ghost use Rattle.session.specs.Limits.{marks_at, max_nodes, fixed_size};
 ghost use Rattle.session.specs.Layout.{part, trigger_of, graph_of, in_layout, image};
 ghost use Rattle.pair_tables.specs.Tables.{marked};
-ghost use Rattle.session.specs.Trigger.{nodes};
+ghost use Rattle.session.specs.Trigger.{edge, nodes};
 ghost use Rattle.bits.specs.Word.{members};
 ghost use Rattle.session_parts.specs.Inside.{Inside};
 ghost use Rattle.session_parts.specs.Admission.{turned_in, admitted_at, AdmittedPairs};
 
-use std::marker::Model;
+use edges::has_edge;
 use pair_tables::{admitted, admitted_at, turned_states};
+use std::marker::Model;
 
 // The part of a memory that begins at a place and has so many words.
 pub fn part_of(session: &[u32], at: usize, used: usize) -> &[u32]
@@ -100,6 +101,14 @@ impl<'a> Held<'a> {
         ensures held { in_layout self.now ≡ true }
     {
         part_of(self.words, session::EDGES_AT, self.words[2] as usize)
+    }
+
+    // Whether there is an edge from start to end.
+    pub fn edge(&self, start: u32, end: u32) -> bool
+        requires { (start < nodes (graph_of self.now)) × (end < nodes (graph_of self.now)) }
+        ensures { result ≡ edge (graph_of self.now) start end }
+    {
+        has_edge(self.edges(), start * session::EDGE_BASE + end)
     }
 
     // The mark words, a word for each node.
