@@ -1,5 +1,6 @@
 -- Where a number stands in an ascending list decides whether it is a member, where it is put in and what is left without it.
 use Prim.Native.Nat.{ℕ, zero, suc, ◌<◌, ◌≤◌}
+use native.Mathlib.Nat.{eq-or-lt_of_le}
 use native.Mathlib.Omega.{arith}
 use mathlib.Core.Path.{◌≡◌, refl, sym, ◌∙◌, ap}
 use mathlib.Core.Logic.{⊎_elim}
@@ -23,6 +24,27 @@ use Rattle.simulation.proofs.Ordered.{
   before-place,
   place_at,
 }
+
+-- no entry is above a later one
+pub rising_up : (xs : List ℕ) → Rising xs → (i j : ℕ) → i ≤ j → j < length xs → get_or xs i 0 ≤ get_or xs j 0
+rising_up xs r i j l m =
+    ⊎_elim
+    (λ (e : i ≡ j). rw e (omega arith))
+    (λ (n : i < j). omega (arith, ascending xs r i j n m))
+    (eq-or-lt_of_le l)
+
+-- the place of a number has lesser entries before it and none from it on
+pub place_is : (xs : List ℕ) (x i : ℕ) → i ≤ length xs → ((k : ℕ) → k < i → get_or xs k 0 < x) → ((k : ℕ) → i ≤ k → k < length xs → x ≤ get_or xs k 0)
+    → i ≡ place xs x
+place_is xs x i l low high =
+    ⊎_elim
+    (λ (m : i < place xs x). absurd (omega (arith, before-place xs x i m, high i (omega arith) (omega (arith, place-le xs x)))))
+    (λ (n : place xs x ≤ i).
+    ⊎_elim
+    (λ (m : place xs x < i). absurd (omega (arith, low (place xs x) m, place_at xs x (omega arith))))
+    (λ (m : i ≤ place xs x). omega arith)
+    (lt-or-le (place xs x) i))
+    (lt-or-le i (place xs x))
 
 -- a member stands at its place
 pub place_of_member : (xs : List ℕ) (x : ℕ) → Rising xs → elem x xs ≡ true → (place xs x < length xs) × (get_or xs (place xs x) 0 ≡ x)

@@ -17,6 +17,7 @@ use Rattle.session.specs.Trigger.{Trigger, Graph, Marks, states, nodes, edge, ed
 use Rattle.session.specs.Layout.{table, section, mark_word, image, trigger_of, graph_of, marks_of, in_layout, image_for}
 use Rattle.session.proofs.Tables.{length-section, get_or-section, section-zero}
 use Rattle.session.proofs.Decoded.{layout-facts, layout-whole}
+use Rattle.session.proofs.Valid.{edge-inside}
 use Rattle.edges.proofs.Moves.{zero-end}
 
 -- a section of es with ps over its front is a section of es', where ps has its entries and hides those of es
@@ -136,6 +137,10 @@ edges-front xs k e room =
 pub edge-elem : (g : Graph) (v w : ℕ) → w < max_nodes → edge g v w ≡ elem (edge_number v w) g.edges
 unfolding edge joins
 edge-elem g v w l = ap (λ (b : Bool). b && elem (edge_number v w) g.edges) (lt-ltb w max_nodes l)
+
+-- an edge of the session joins two of its nodes
+pub joined : (xs : List ℕ) (a b : ℕ) → in_layout xs ≡ true → edge (graph_of xs) a b ≡ true → (a < nodes (graph_of xs)) × (b < nodes (graph_of xs))
+joined xs a b h e = edge-inside (graph_of xs) (layout-facts xs h).graph a b e
 
 -- ---- one edge more, one less
 

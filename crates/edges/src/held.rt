@@ -7,6 +7,7 @@ ghost use Rattle.session.specs.Layout.{image, trigger_of, graph_of, marks_of, in
 use super::{drop_edge, has_edge, put_edge};
 
 // Whether the session has the edge from start to end.
+#[tactic(auto, using(crate::proofs::Stored::held))]
 pub fn edge_in(session: &[u32], start: u32, end: u32) -> bool
     requires session_value { in_layout session.now ≡ true }
     requires start_bound { (start < nodes (graph_of session.now)) × (end < nodes (graph_of session.now)) }
@@ -20,6 +21,7 @@ pub fn edge_in(session: &[u32], start: u32, end: u32) -> bool
 }
 
 // Puts an edge into the session. Where it is new, all but what the marks say stays in layout.
+#[tactic(auto, using(crate::proofs::Stored::held))]
 pub fn insert_edge(session: &mut [u32], start: u32, end: u32)
     requires session_value { in_layout session.old ≡ true }
     requires start_bound { (start < nodes (graph_of session.old)) × (end < nodes (graph_of session.old)) }
@@ -36,6 +38,7 @@ pub fn insert_edge(session: &mut [u32], start: u32, end: u32)
 }
 
 // Takes an edge out of the session. All but what the marks say stays in layout.
+#[tactic(auto, using(crate::proofs::Stored::held, crate::proofs::Stored::joined))]
 pub fn remove_edge(session: &mut [u32], start: u32, end: u32)
     requires session_value { in_layout session.old ≡ true }
     requires end_value { edge (graph_of session.old) start end ≡ true }

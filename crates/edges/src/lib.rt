@@ -14,20 +14,11 @@ pub fn place_of(edges: &[u32], code: u32) -> usize
     requires { ascends edges.now ≡ true }
     ensures { result ≡ first (λ k. leb code (get_or edges.now k 0)) 0 (length edges.now) }
 {
-    let mut low = 0;
-    let mut high = edges.len();
-    while low < high {
-        let middle = low + (high - low) / 2;
-        if edges[middle] < code {
-            low = middle + 1;
-        } else {
-            high = middle;
-        }
-    }
-    low
+    edges.partition_point(|edge| *edge < code)
 }
 
 // The index of the first edge that starts at v or after it.
+#[tactic(auto, unfolding(simulation::specs::Ordered::from))]
 pub fn first_edge(edges: &[u32], v: u32) -> usize
     requires { (ascends edges.now ≡ true) × (v ≤ max_nodes) }
     ensures { result ≡ from max_nodes edges.now v }
@@ -44,16 +35,13 @@ pub fn has_edge(edges: &[u32], code: u32) -> bool
     at < edges.len() && edges[at] == code
 }
 
-// Each word but the last moves up by one; the first keeps its word. A loop over a part from its own beginning is one block move.
+// Each word but the last moves up by one; the first keeps its word. Only a copy over a part from its own beginning is compiled to one block move.
 pub fn move_up(part: &mut [u32])
     requires { 0 < length part.old }
     ensures { part.new ≡ take 1 part.old ++ take (length part.old - 1) part.old }
 {
-    let mut k = part.len() - 1;
-    while 0 < k {
-        part[k] = part[k - 1];
-        k -= 1;
-    }
+    let last = part.len() - 1;
+    part.copy_within(..last, 1);
 }
 
 // Each word but the first moves down by one, and the last place becomes zero.
@@ -62,11 +50,7 @@ pub fn move_down(part: &mut [u32])
     ensures { part.new ≡ drop 1 part.old ++ (0 ∷ []) }
 {
     let last = part.len() - 1;
-    let mut k = 0;
-    while k < last {
-        part[k] = part[k + 1];
-        k += 1;
-    }
+    part.copy_within(1.., 0);
     part[last] = 0;
 }
 

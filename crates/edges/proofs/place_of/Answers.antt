@@ -1,31 +1,23 @@
-use Prim.Native.Nat.{◌+◌, ◌-◌, ◌/◌, ◌<◌, ◌≤◌}
 use native.Mathlib.Omega.{arith}
-use mathlib.Core.Logic.{⊎_elim}
-use Rattle.simulation.proofs.Search.{lt-or-le}
-use Rattle.simulation.proofs.Ordered.{rising-take, place, place-le, before-place, after-place}
+use lib.Dec.{ltb}
+use lib.ListN.{get_or}
+use borrow.Author.Rules.{rules}
+use borrow.Author.Tests.{ltb-true, ltb-false}
+use Rattle.std.proofs.lemmas.List.Sorted.{IsPartitionPoint-from_clause, IsPartitionedBy-ltb, IsNonDecreasingBy-from_default}
+use Rattle.simulation.proofs.Ordered.{rising-take}
+use Rattle.edges.proofs.Places.{rising_up, place_is}
 use Rattle.edges.proofs.place_of.Goals as goal
 
-pub loop-low-init : goal.loop-low-init
-loop-low-init c =
-    omega (arith, place-le c.args.edges.now c.args.code)
-
-pub loop-low-preserved-then-edges-middle : goal.loop-low-preserved-then-edges-middle
-loop-low-preserved-then-edges-middle c =
-    let l = c.loop-low in
+pub returns : goal.returns
+returns c =
     let es = c.args.edges.now in
-    let middle = l.low + (l.high - l.low) / 2 in
-    ⊎_elim
-    (λ (m : middle < place es c.args.code). omega arith)
-    (λ (m : place es c.args.code ≤ middle).
-    absurd (omega (arith, after-place es c.args.code (rising-take es c.requires) middle (omega arith) m)))
-    (lt-or-le middle (place es c.args.code))
-
-pub loop-low-preserved : goal.loop-low-preserved
-loop-low-preserved c =
-    let l = c.loop-low in
-    let es = c.args.edges.now in
-    let middle = l.low + (l.high - l.low) / 2 in
-    ⊎_elim
-    (λ (m : middle < place es c.args.code). absurd (omega (arith, before-place es c.args.code middle m)))
-    (λ (m : place es c.args.code ≤ middle). omega arith)
-    (lt-or-le middle (place es c.args.code))
+    let code = c.args.code in
+    let found = c.partition_point in
+    let below =
+    IsPartitionPoint-from_clause (λ y. ltb y code) es found.result found.ensures.partitioned
+    (IsPartitionedBy-ltb (λ y. y) es code
+    (IsNonDecreasingBy-from_default (λ y. y) es 0 (λ i j l m. rising_up es (rising-take es c.requires) i j l m)))
+    (λ a r f' k. search rules) in
+    place_is es code found.result found.ensures.bound
+    (λ k l. ltb-true (get_or es k 0) code (below.0 k 0 (omega arith) l))
+    (λ k l m. ltb-false (get_or es k 0) code (below.1 k 0 l m))

@@ -16,30 +16,6 @@ use Rattle.edges.proofs.held.edge_in.Goals.{Start}
 holds : (c : Start) → Held c.args.session.now
 holds c = held c.args.session.now c.requires.session_value
 
-pub bounds-session-2 : goal.bounds-session-2
-bounds-session-2 c =
-    omega (arith, holds (goal.at.bounds-session-2 c).Start)
-
-pub overflow_cast-edges_end : goal.overflow_cast-edges_end
-overflow_cast-edges_end c =
-    omega (arith, holds (goal.at.overflow_cast-edges_end c).Start)
-
-pub overflow_add-edges_end : goal.overflow_add-edges_end
-overflow_add-edges_end c =
-    omega (arith, holds (goal.at.overflow_add-edges_end c).Start)
-
-pub slice_bounds-has_edge-end : goal.slice_bounds-has_edge-end
-slice_bounds-has_edge-end c =
-    omega (arith, holds (goal.at.slice_bounds-has_edge-end c).Start)
-
-pub overflow_mul-start : goal.overflow_mul-start
-overflow_mul-start c =
-    omega (arith, holds (goal.at.overflow_mul-start c).Start)
-
-pub overflow_add-start : goal.overflow_add-start
-overflow_add-start c =
-    omega (arith, holds (goal.at.overflow_add-start c).Start)
-
 pub has_edge-requires : goal.has_edge-requires
 has_edge-requires c =
     let xs = c.args.session.now in

@@ -5,37 +5,13 @@ use lib.ListN.{length, get_or}
 use Rattle.simulation.proofs.Ordered.{rising_make}
 use Rattle.session.specs.Limits.{edges_at}
 use Rattle.session.specs.Layout.{graph_of}
-use Rattle.edges.proofs.Stored.{Held, held, part-size, edges-front, before-part, insert_stored}
+use Rattle.edges.proofs.Stored.{Held, held, part-size, edges-front, insert_stored}
 use Rattle.edges.proofs.held.insert_edge.Goals as goal
 use Rattle.edges.proofs.held.insert_edge.Goals.{Start}
 
 -- the counts and the edges at entry
 holds : (c : Start) → Held c.args.session.now
 holds c = held c.args.session.now c.requires.session_value
-
-pub bounds-session-2 : goal.bounds-session-2
-bounds-session-2 c =
-    omega (arith, holds (goal.at.bounds-session-2 c).Start)
-
-pub overflow_cast-edges_end : goal.overflow_cast-edges_end
-overflow_cast-edges_end c =
-    omega (arith, holds (goal.at.overflow_cast-edges_end c).Start)
-
-pub overflow_add-edges_end-2 : goal.overflow_add-edges_end-2
-overflow_add-edges_end-2 c =
-    omega (arith, holds (goal.at.overflow_add-edges_end-2 c).Start)
-
-pub slice_bounds-put_edge-end : goal.slice_bounds-put_edge-end
-slice_bounds-put_edge-end c =
-    omega (arith, holds (goal.at.slice_bounds-put_edge-end c).Start)
-
-pub overflow_mul-start : goal.overflow_mul-start
-overflow_mul-start c =
-    omega (arith, holds (goal.at.overflow_mul-start c).Start)
-
-pub overflow_add-start : goal.overflow_add-start
-overflow_add-start c =
-    omega (arith, holds (goal.at.overflow_add-start c).Start)
 
 pub put_edge-requires : goal.put_edge-requires
 put_edge-requires c =
@@ -44,15 +20,6 @@ put_edge-requires c =
     let f = holds (goal.at.put_edge-requires c).Start in
     let room : edges_at + k ≤ length xs = omega (arith, f.long, f.few_edges) in
     (omega (arith, part-size xs k room), rw (edges-front xs k (omega arith) room) (rising_make (graph_of xs).edges f.rising))
-
-pub overflow_add-session : goal.overflow_add-session
-overflow_add-session c =
-    omega (arith, holds (goal.at.overflow_add-session c).Start)
-
-pub bounds-session-2-2 : goal.bounds-session-2-2
-bounds-session-2-2 c =
-    let xs = c.args.session.now in
-    omega (arith, (holds (goal.at.bounds-session-2-2 c).Start).long, before-part edges_at (edges_at + 1 + get_or xs 2 0 - edges_at) xs c.put_edge.new.edges (omega (arith, (holds (goal.at.bounds-session-2-2 c).Start).long)))
 
 pub returns : goal.returns
 returns c =
