@@ -1,24 +1,10 @@
-// The edges that a session holds: one looked for, one put in, one taken out.
+// The edges that a session holds: one put in, one taken out.
 ghost use Rattle.std.specs.Prelude.{◌≡◌, true, ◌++◌, ◌<◌, length, drop};
 ghost use Rattle.session.specs.Limits.{fixed_size, max_edges};
 ghost use Rattle.session.specs.Trigger.{nodes, edge, with_edge, without_edge};
 ghost use Rattle.session.specs.Layout.{image, trigger_of, graph_of, marks_of, in_layout};
 
-use super::{drop_edge, has_edge, put_edge};
-
-// Whether the session has the edge from start to end.
-#[tactic(auto, using(crate::proofs::Stored::held))]
-pub fn edge_in(session: &[u32], start: u32, end: u32) -> bool
-    requires session_value { in_layout session.now ≡ true }
-    requires start_bound { (start < nodes (graph_of session.now)) × (end < nodes (graph_of session.now)) }
-    ensures { result ≡ edge (graph_of session.now) start end }
-{
-    let edges_end = session::EDGES_AT + session[2] as usize;
-    has_edge(
-        &session[session::EDGES_AT..edges_end],
-        start * session::EDGE_BASE + end,
-    )
-}
+use super::{drop_edge, put_edge};
 
 // Puts an edge into the session. Where it is new, all but what the marks say stays in layout.
 #[tactic(auto, using(crate::proofs::Stored::held))]

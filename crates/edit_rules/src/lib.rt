@@ -5,7 +5,7 @@ ghost use Rattle.std.specs.Prelude.{◌≡◌};
 ghost use Rattle.promises.specs.Rules.{edit_rules, verdict};
 ghost use Rattle.editing.specs.Steps.{kind_of, shared_rules};
 
-use edges::held::edge_in;
+use session_parts::Held;
 use reports::too_short;
 
 // The number of the first rule broken of those that both edits share, and 0 where none is.
@@ -35,7 +35,7 @@ pub fn edit_rule(session: &[u32], room: usize, inserts: bool, start: u32, end: u
     if broken != 0 {
         return broken;
     }
-    let present = edge_in(session, start, end);
+    let present = Held::of(session).edge(start, end);
     if inserts {
         if present {
             return 12;
