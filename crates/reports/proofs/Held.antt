@@ -1,20 +1,19 @@
 -- What the report of a call reads from a session in layout: firing, and the change list.
-use Rattle.session.specs.Limits.{marks_at, max_changes, max_nodes}
-use Rattle.session.proofs.Tables.{part-from}
-use Prim.Native.Nat.{ℕ, ◌+◌, ◌-◌, ◌≤◌}
+use Rattle.session.specs.Limits.{max_changes}
+use Prim.Native.Nat.{ℕ, ◌≤◌}
 use native.Mathlib.Nat.{mul-le-mul_left}
 use native.Mathlib.Omega.{arith}
-use mathlib.Core.Path.{◌≡◌, refl, sym, ◌∙◌, ap, ap₂}
+use mathlib.Core.Path.{◌≡◌, refl, ◌∙◌, ap, ap₂}
 use mathlib.Core.Bool.{Bool, true, not, ◌||◌}
 use mathlib.Core.List.{List}
-use lib.ListN.{length, get_or, take, drop, length-take, length-drop}
-use lib.Seq.{length-take-le, get_or-take, take-take}
+use lib.ListN.{length, get_or, take}
+use lib.Seq.{length-take-le, get_or-take}
 use Rattle.simulation.specs.Sets.{Set, all_below, any_below}
 use Rattle.simulation.proofs.Edges.{any_same, all_same}
 use Rattle.bits.specs.Word.{members}
 use Rattle.session.specs.Trigger.{Trigger, Graph, states, nodes}
 use Rattle.session.specs.Reached.{reached, linked_by}
-use Rattle.session.specs.Layout.{trigger_of, graph_of, marks_of, in_layout}
+use Rattle.session.specs.Layout.{trigger_of, graph_of, in_layout}
 use Rattle.session.proofs.Reached.{reached-same}
 use Rattle.session.proofs.Decoded.{LayoutFacts, layout-facts, layout_limits}
 use Rattle.pair_tables.specs.Tables.{marked}
@@ -22,7 +21,6 @@ use Rattle.listing.specs.Changes.{changes}
 use Rattle.listing.specs.Placed.{table_changes}
 use Rattle.listing.proofs.Placing.{table-short}
 use Rattle.promises.specs.Standing.{fires}
-use Rattle.session_parts.proofs.Parts.{held-marks}
 
 module _ (xs : List ℕ) (h : in_layout xs ≡ true) where
   abbrev facts : LayoutFacts xs
@@ -75,16 +73,3 @@ module _ (xs : List ℕ) (h : in_layout xs ≡ true) where
         mul-le-mul_left (get_or xs 1 0) b.few_states,
         b.few_nodes,
       )
-
-  -- firing, as the mark words of the nodes tell it
-  pub held-firing : (let links = (trigger_of xs).links in
-      let marks = take (marks_at + get_or xs 1 0 - marks_at) (drop marks_at xs) in
-      all_below (length links) (λ u. not (reached (linked_by links) u) || any_below (length marks) (λ v. members (get_or marks v 0) u)))
-      ≡ fires (trigger_of xs) (graph_of xs) (marks_of xs)
-  held-firing =
-      let links = t.links in
-      ap
-      (λ (ws : List ℕ). all_below (length links) (λ u. not (reached (linked_by links) u) || any_below (length ws) (λ v. members (get_or ws v 0) u)))
-      (part-from xs marks_at (get_or xs 1 0) ∙ sym (take-take (get_or xs 1 0) max_nodes (drop marks_at xs) (layout_limits xs h).few_nodes))
-      ∙ held-fires (take max_nodes (drop marks_at xs)) (omega (arith, length-take max_nodes (drop marks_at xs), length-drop marks_at xs, layout_limits xs h))
-      ∙ ap (fires t g) (held-marks xs h)

@@ -6,7 +6,7 @@ ghost use Rattle.session.specs.Limits.{fixed_size, max_changes, max_nodes};
 ghost use Rattle.simulation.specs.Sets.{all_below, any_below};
 ghost use Rattle.bits.specs.Word.{members, set_bits};
 ghost use Rattle.session.specs.Reached.{reached, linked_by};
-ghost use Rattle.session.specs.Layout.{trigger_of, graph_of, in_layout, marks_of};
+ghost use Rattle.session.specs.Layout.{trigger_of, graph_of, marks_of};
 ghost use Rattle.pair_tables.specs.Tables.{marked};
 ghost use Rattle.promises.specs.Standing.{fires};
 ghost use Rattle.promises.specs.Answers.{told, changes_told, handed_back};
@@ -16,7 +16,7 @@ ghost use Rattle.reports.specs.Marks.{Tells};
 
 use change_lists::write_changes;
 use promises::{Answer, Firing, Report};
-use session_parts::links_of;
+use session_parts::Held;
 
 // Rule 3: the memory or the room is too short.
 pub fn too_short(memory: usize, room: usize) -> bool
@@ -41,12 +41,10 @@ pub fn reached_marked(words: &[u32], links: &[u32]) -> bool
 }
 
 // Whether the trigger fires, by the marks that the session holds.
-pub fn fires_now(session: &[u32]) -> bool
-    requires { in_layout session.now ≡ true }
+pub fn fires_now(session: &Held) -> bool
     ensures { result ≡ fires (trigger_of session.now) (graph_of session.now) (marks_of session.now) }
 {
-    let end = session::MARKS_AT + session[1] as usize;
-    reached_marked(&session[session::MARKS_AT..end], links_of(session))
+    reached_marked(&session.marks()[..session.nodes()], session.links())
 }
 
 // How many changes an answer tells of.
@@ -65,8 +63,7 @@ pub fn changed_part(changes: &[i32], answer: Answer) -> &[i32]
 }
 
 // The answer with these counts: firing is read from the marks that the session holds.
-pub fn answered(session: &[u32], trials: u32, changes: u32) -> Answer
-    requires { in_layout session.now ≡ true }
+pub fn answered(session: &Held, trials: u32, changes: u32) -> Answer
     ensures { Tells session.now trials changes result }
 {
     Ok(Report {
@@ -77,18 +74,11 @@ pub fn answered(session: &[u32], trials: u32, changes: u32) -> Answer
 }
 
 // Writes the changes from the marks of the table to those that the session holds, and makes the answer.
-pub fn report(session: &[u32], before: &[u32], trials: u32, room: &mut [i32]) -> Answer
-    requires { (in_layout session.now ≡ true) × (length before.now ≡ max_nodes) × (max_changes ≤ length room.old) }
+pub fn report(session: &Held, before: &[u32], trials: u32, room: &mut [i32]) -> Answer
+    requires { (length before.now ≡ max_nodes) × (max_changes ≤ length room.old) }
     ensures { Reported (trigger_of session.now) (graph_of session.now) (marks_of session.now) trials (changes (trigger_of session.now) (graph_of session.now) (marked before.now) (marks_of session.now)) room.old result room.new }
 {
-    let states = session[0];
-    let nodes = session[1] as usize;
-    let count = write_changes(
-        room,
-        states,
-        nodes,
-        before,
-        &session[session::MARKS_AT..session::FIXED_SIZE],
-    ) as u32;
+    let marks = session.marks();
+    let count = write_changes(room, session.states(), session.nodes(), before, marks) as u32;
     answered(session, trials, count)
 }
