@@ -12,21 +12,21 @@ use load_rules::load_rule;
 use promises::Answer;
 use refinement::refine_indexed;
 use reports::report;
-use session_parts::{admitted_pairs, edges_of, links_of, store_marks, turned_of};
+use session_parts::{Held, store_marks};
 use worklist::WAITING_WORDS;
 
 // Puts the greatest simulation of what the session holds into a table that is zero; how many pairs are admitted.
-pub fn solve(session: &[u32], table: &mut [u32]) -> u32
-    requires { (in_layout session.now ≡ true) × (length table.old ≡ max_nodes) × ((v : ℕ) → get_or table.old v 0 ≡ 0) }
+pub fn solve(session: &Held, table: &mut [u32]) -> u32
+    requires { (length table.old ≡ max_nodes) × ((v : ℕ) → get_or table.old v 0 ≡ 0) }
     ensures { Solved session.now result table.new }
 {
-    let nodes = session[1] as usize;
-    let trials = admitted_pairs(session, turned_of(session), table);
+    let nodes = session.nodes();
+    let trials = session.admitted_pairs(session.turned(), table);
     let mut waiting = [bits::ALL; WAITING_WORDS];
     let settled = [0u32; session::MAX_NODES];
     refine_indexed(
-        links_of(session),
-        edges_of(session),
+        session.links(),
+        session.edges(),
         nodes,
         &settled,
         table,
@@ -102,7 +102,7 @@ pub fn load(
     );
     let before = [0u32; session::MAX_NODES];
     let mut table = [0u32; session::MAX_NODES];
-    let trials = solve(session, &mut table);
+    let trials = solve(&Held::of(session), &mut table);
     store_marks(session, &table);
-    report(session, &before, trials, changes)
+    report(&Held::of(session), &before, trials, changes)
 }
