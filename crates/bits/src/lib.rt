@@ -66,6 +66,7 @@ pub fn differing(a: u32, b: u32) -> u32
 }
 
 // Whether each member of a is one of b.
+#[tactic(auto, using(crate::proofs::Tests::subset_within))]
 pub fn subset(a: u32, b: u32) -> bool
     ensures { result ≡ within set_bits a b }
 {
@@ -80,6 +81,7 @@ pub fn meet(a: u32, b: u32) -> bool
 }
 
 // Whether there is no member.
+#[tactic(auto, using(crate::proofs::Tests::empty_any))]
 pub fn empty(word: u32) -> bool
     ensures { result ≡ not (any_below set_bits (members word)) }
 {
@@ -87,6 +89,7 @@ pub fn empty(word: u32) -> bool
 }
 
 // The lowest member of a set that has one.
+#[tactic(auto, using(crate::proofs::Counts::trailing_lowest))]
 pub fn lowest(word: u32) -> u32
     requires { word ≡ 0 → ⊥ }
     ensures { (result < set_bits) × (members word result ≡ true) × ((i : ℕ) → i < result → members word i ≡ false) }
@@ -113,6 +116,7 @@ pub fn several(word: u32) -> bool
 }
 
 // How many members there are.
+#[tactic(auto, using(crate::proofs::Counts::ones_count))]
 pub fn size(word: u32) -> u32
     ensures { result ≡ count set_bits (members word) }
 {
