@@ -1,11 +1,11 @@
 // Sets of small numbers, each held in a word: bit i is 1 where i is a member.
 #![tactic(auto)]
 
-ghost use Rattle.std.specs.Prelude.{◌≡◌, Bool, true, false, not, cond, ℕ, ◌-◌, ◌^◌, ◌%◌, ◌<◌, ◌≤◌, ltb, eqb, length, get_or};
+ghost use Rattle.std.specs.Prelude.{◌≡◌, true, false, not, cond, ℕ, ◌-◌, ◌^◌, ◌%◌, ◌<◌, ◌≤◌, ltb, eqb, length, get_or};
 ghost use Rattle.std.specs.Bool.{beq};
 ghost use Rattle.std.specs.Int.Bits.{bit_and};
 ghost use Rattle.simulation.specs.Sets.{also, without, union, minus, any_below, count};
-ghost use Rattle.bits.specs.Word.{members, within, overlaps, half_bits, set_bits};
+ghost use Rattle.bits.specs.Word.{members, within, overlaps, set_bits};
 
 // The width of a word that holds a set, and of its halves.
 pub const HALF_BITS: usize = 16;
@@ -153,7 +153,7 @@ pub fn gathered(words: &[u32]) -> u32
 {
     let mut all = 0;
     for word in words {
-        all = all | *word;
+        all |= *word;
     }
     all
 }
