@@ -1,11 +1,11 @@
 // Sets of small numbers, each held in a word: bit i is 1 where i is a member.
 #![tactic(auto)]
 
-ghost use Rattle.std.specs.Prelude.{◌≡◌, Bool, true, false, not, cond, ℕ, ◌-◌, ◌^◌, ◌%◌, ◌<◌, ◌≤◌, ltb, eqb, length, get_or};
+ghost use Rattle.std.specs.Prelude.{◌≡◌, true, false, not, cond, ℕ, ◌-◌, ◌^◌, ◌%◌, ◌<◌, ◌≤◌, ltb, eqb, length, get_or};
 ghost use Rattle.std.specs.Bool.{beq};
 ghost use Rattle.std.specs.Int.Bits.{bit_and};
 ghost use Rattle.simulation.specs.Sets.{also, without, union, minus, any_below, count};
-ghost use Rattle.bits.specs.Word.{members, within, overlaps, half_bits, set_bits};
+ghost use Rattle.bits.specs.Word.{members, within, overlaps, set_bits};
 
 // The width of a word that holds a set, and of its halves.
 pub const HALF_BITS: usize = 16;
@@ -66,6 +66,7 @@ pub fn differing(a: u32, b: u32) -> u32
 }
 
 // Whether each member of a is one of b.
+#[tactic(auto, using(crate::proofs::Tests::subset_within))]
 pub fn subset(a: u32, b: u32) -> bool
     ensures { result ≡ within set_bits a b }
 {
@@ -80,6 +81,7 @@ pub fn meet(a: u32, b: u32) -> bool
 }
 
 // Whether there is no member.
+#[tactic(auto, using(crate::proofs::Tests::empty_any))]
 pub fn empty(word: u32) -> bool
     ensures { result ≡ not (any_below set_bits (members word)) }
 {
@@ -87,6 +89,7 @@ pub fn empty(word: u32) -> bool
 }
 
 // The lowest member of a set that has one.
+#[tactic(auto, using(crate::proofs::Counts::trailing_lowest))]
 pub fn lowest(word: u32) -> u32
     requires { word ≡ 0 → ⊥ }
     ensures { (result < set_bits) × (members word result ≡ true) × ((i : ℕ) → i < result → members word i ≡ false) }
@@ -113,6 +116,7 @@ pub fn several(word: u32) -> bool
 }
 
 // How many members there are.
+#[tactic(auto, using(crate::proofs::Counts::ones_count))]
 pub fn size(word: u32) -> u32
     ensures { result ≡ count set_bits (members word) }
 {
@@ -148,44 +152,41 @@ pub fn gathered(words: &[u32]) -> u32
     ensures { members result ≡ (λ i. any_below (length words.now) (λ k. members (get_or words.now k 0) i)) }
 {
     let mut all = 0;
-    let mut k = 0;
-    while k < words.len() {
-        all = all | words[k];
-        k += 1;
+    for word in words {
+        all |= *word;
     }
     all
 }
 
+// A set's word or half of one: what a loop over either picks.
+pub trait Word: Copy {
+    ghost NONE: { Self };
+
+    // No bit.
+    const NONE: Self;
+}
+
+impl Word for u32 {
+    ghost NONE = { 0 };
+
+    const NONE: u32 = 0;
+}
+
+impl Word for u16 {
+    ghost NONE = { 0 };
+
+    const NONE: u16 = 0;
+}
+
 // The word where the test holds, and no bit where it does not: a fold over it has no branch.
-pub fn picked(word: u32, test: bool) -> u32
-    ensures { result ≡ cond test word 0 }
+pub fn picked<W: Word>(word: W, test: bool) -> W
+    ensures { result ≡ cond test word W.NONE }
 {
-    if test { word } else { 0 }
+    if test { word } else { W::NONE }
 }
 
-pub fn picked_half(word: u16, test: bool) -> u16
-    ensures { result ≡ cond test word 0 }
-{
-    if test { word } else { 0 }
-}
-
-// Every bit, for a turn.
+// Every bit.
 pub const ALL: u32 = 4294967295;
 
-pub const ALL_HALF: u16 = 65535;
-
 // The lower half.
-pub const LOWER: u32 = ALL_HALF as u32;
-
-// The word where the test holds; where it does not, if the turn is every bit and not none. The turn is one operation, and there is no branch.
-pub fn chosen(word: u32, test: bool, turn: u32) -> u32
-    ensures { (b : Bool) → turn ≡ cond b (2 ^ set_bits - 1) 0 → result ≡ cond (cond b (not test) test) word 0 }
-{
-    word & (picked(ALL, test) ^ turn)
-}
-
-pub fn chosen_half(word: u16, test: bool, turn: u16) -> u16
-    ensures { (b : Bool) → turn ≡ cond b (2 ^ half_bits - 1) 0 → result ≡ cond (cond b (not test) test) word 0 }
-{
-    word & (picked_half(ALL_HALF, test) ^ turn)
-}
+pub const LOWER: u32 = 65535;

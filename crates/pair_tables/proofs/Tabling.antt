@@ -1,17 +1,16 @@
 -- Loops over a table or a set: a set that gains what passes a test, a table changed word by word, the pairs counted node by node.
-use Prim.Native.Nat.{ℕ, zero, suc, ◌+◌, ◌*◌, ◌/◌, ◌%◌, ◌^◌, ◌<◌, ◌≤◌, zero-le}
+use Prim.Native.Nat.{ℕ, zero, suc, ◌+◌, ◌*◌, ◌/◌, ◌%◌, ◌^◌, ◌<◌, ◌≤◌}
 use native.Mathlib.Numerals.{add-one}
 use native.Mathlib.Omega.{arith}
 use mathlib.Core.Path.{◌≡◌, refl, sym, ap, ap₂, ◌∙◌, fun_ext}
 use mathlib.Core.Logic.{⊎_elim}
-use mathlib.Core.Bool.{Bool, true, false, not, ◌&&◌, cond, and-false, beq}
+use mathlib.Core.Bool.{Bool, true, false, not, ◌&&◌, and-false, beq}
 use mathlib.Core.List.{List}
 use lib.Arith.{digits_mod, digits_div}
 use lib.Bits.{bit_and, bit_xor}
 use lib.Dec.{ltb, eqb}
-use lib.ListN.{length, get_or, set, length-set, get_or-eq_default}
-use lib.Seq.{get_or-set_same, get_or-set_other}
-use borrow.Author.Tests.{ltb-false, lt-ltb, le-ltb, eqb-true, eqb-false, eq-eqb, ne_eqb}
+use lib.ListN.{length, get_or, get_or-eq_default}
+use borrow.Author.Tests.{ltb-false, lt-ltb, eqb-true, eqb-false, eq-eqb, ne_eqb}
 use Rattle.simulation.specs.Sets.{Set, count}
 use Rattle.simulation.proofs.Sets.{clash, refuted, split, count-le}
 use Rattle.simulation.proofs.Loops.{count_same, count_beyond, total, count-rows}
@@ -22,7 +21,6 @@ use Rattle.session.specs.Limits.{word_bits, max_states}
 use Rattle.session.specs.Trigger.{agrees, matches, accepts}
 use Rattle.session.proofs.Admission.{agrees_masked, matches_differs, accepts-turned}
 use Rattle.pair_tables.specs.Tables.{marked, turned_states}
-use Rattle.simulation.proofs.Gains.{more-here, more_other}
 
 -- words of zero mark nothing
 pub marked-none : (ts : List ℕ) → ((v : ℕ) → get_or ts v 0 ≡ 0) → marked ts ≡ (λ u v. false)
@@ -103,48 +101,16 @@ module _ (masks : List ℕ) where
   pub turned_none : (inverted : ℕ) → inverted ≡ 0 → members 0 ≡ turned_states masks inverted
   turned_none inverted e = fun_ext (λ u. rw (e, zero-members u))
 
--- ---- the words below k are changed: each pair by its mark in either table
+-- ---- each word is changed by the other table's of its node; past the end neither table has a pair
 
--- `ts` with its words below k changed is `ts'`
-pub record Changed (op : Bool → Bool → Bool) (ts os ts' : List ℕ) (k : ℕ) : Type 0 where
-  pub long : length ts' ≡ length ts
-  pub words : (u v : ℕ) → marked ts' u v ≡ cond (ltb v k) (op (marked ts u v) (marked os u v)) (marked ts u v)
-
-module _ (op : Bool → Bool → Bool) (ts os : List ℕ) where
-  pub changed-start : Changed op ts os ts 0
-  changed-start = record { long = refl; words = λ u v. sym (rw (le-ltb v 0 zero-le) refl) }
-
-  module _ {ts' : List ℕ} {k : ℕ} (c : Changed op ts os ts' k) where
-    pub changed-step : (x : ℕ) → k < length ts' → members x ≡ (λ u. op (marked ts' u k) (marked os u k)) → Changed op ts os (set ts' k x) (k + 1)
-    changed-step x l e =
-        record {
-          long = length-set ts' k x ∙ c.long;
-          words = λ u v. ⊎_elim (λ (t : eqb v k ≡ true). here u v t) (λ (t : eqb v k ≡ false). away u v t) (split (eqb v k));
-        }
-      where
-        still : (u : ℕ) → marked ts' u k ≡ marked ts u k
-        still u = c.words u k ∙ rw (le-ltb k k (omega arith)) refl
-
-        here : (u v : ℕ) → eqb v k ≡ true
-            → marked (set ts' k x) u v ≡ cond (ltb v (k + 1)) (op (marked ts u v) (marked os u v)) (marked ts u v)
-        here u v t =
-            rw (eqb-true v k t, more-here k, get_or-set_same ts' k x 0 l)
-            (ap (λ (X : Set). X u) e ∙ ap (λ (b : Bool). op b (marked os u k)) (still u))
-
-        away : (u v : ℕ) → eqb v k ≡ false
-            → marked (set ts' k x) u v ≡ cond (ltb v (k + 1)) (op (marked ts u v) (marked os u v)) (marked ts u v)
-        away u v t = rw (get_or-set_other ts' k v x 0 (eqb-false v k t), more_other v k (eqb-false v k t)) (c.words u v)
-
-    -- all words are changed; past the end neither table has a pair
-    pub changed-end : op false false ≡ false → length os ≡ length ts → length ts' ≤ k → (length ts' ≡ length ts)
-        × ((u v : ℕ) → marked ts' u v ≡ op (marked ts u v) (marked os u v))
-    changed-end off same l = (c.long, λ u v. c.words u v ∙ ⊎_elim (λ (t : ltb v k ≡ true). rw t refl) (λ (t : ltb v k ≡ false). rest u v t) (split (ltb v k)))
-      where
-        rest : (u v : ℕ) → ltb v k ≡ false
-            → cond (ltb v k) (op (marked ts u v) (marked os u v)) (marked ts u v) ≡ op (marked ts u v) (marked os u v)
-        rest u v t =
-            let h = ltb-false v k t in
-            rw (t, unmarked ts u v (omega (arith, c.long)), unmarked os u v (omega (arith, c.long))) (sym off)
+pub changed_words : (op : Bool → Bool → Bool) (ts os ts' : List ℕ) → op false false ≡ false → length os ≡ length ts → length ts' ≡ length ts
+    → ((v : ℕ) → v < length ts → members (get_or ts' v 0) ≡ (λ u. op (marked ts u v) (marked os u v)))
+    → (length ts' ≡ length ts) × ((u v : ℕ) → marked ts' u v ≡ op (marked ts u v) (marked os u v))
+changed_words op ts os ts' off same long each =
+    (long, λ u v. ⊎_elim (λ (l : v < length ts). ap (λ (X : Set). X u) (each v l)) (λ (l : length ts ≤ v). past u v l) (lt-or-le v (length ts)))
+  where
+    past : (u v : ℕ) → length ts ≤ v → marked ts' u v ≡ op (marked ts u v) (marked os u v)
+    past u v l = rw (unmarked ts u v l, unmarked os u v (omega arith), unmarked ts' u v (omega arith)) (sym off)
 
 -- ---- the pairs at the nodes below v
 

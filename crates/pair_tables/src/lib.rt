@@ -1,7 +1,7 @@
 // Tables of pairs, a word of states for each node: those that are admitted, tables put together and taken away, pairs counted.
 #![tactic(auto)]
 
-ghost use Rattle.std.specs.Prelude.{◌≡◌, Bool, true, not, ◌&&◌, ◌||◌, cond, ℕ, ◌-◌, ◌^◌, ◌<◌, ◌≤◌, ◌*◌, ◌/◌, ◌%◌, length, get_or, ltb};
+ghost use Rattle.std.specs.Prelude.{◌≡◌, true, not, ◌&&◌, ◌||◌, ℕ, ◌^◌, ◌<◌, ◌≤◌, ◌*◌, ◌/◌, ◌%◌, length, get_or, ltb};
 ghost use Rattle.session.specs.Limits.{max_nodes, max_states, word_bits};
 ghost use Rattle.session.specs.Layout.{below};
 ghost use Rattle.pair_tables.specs.Tables.{Admits, Admitted};
@@ -10,42 +10,39 @@ ghost use Rattle.bits.specs.Word.{members, set_bits};
 ghost use Rattle.session.specs.Trigger.{matches};
 ghost use Rattle.pair_tables.specs.Tables.{marked, turned_states};
 
-// Puts a state into the words of the nodes where a mask and a value agree with the sample, or, with a turn of every bit, where they do not; how many they
-// are. Each word is stored, so there is no branch.
-pub fn put_turned(
+// Puts a state into the words of the nodes where a mask and a value agree with the sample, or, turned round, where they do not; how many they are. Each word is
+// stored, so there is no branch. Whether it is turned is no value but a part of the loop: a plain state's spends nothing on it, and a turned one's no more
+// than the count.
+pub fn put_turned<const TURNED: bool>(
     samples: &[u32],
-    turn: u32,
     mask: u32,
     value: u32,
     u: u32,
     table: &mut [u32],
 ) -> u32
-    requires mask_bound { (mask < 2 ^ word_bits) × (u < set_bits) × (length samples.now ≤ length table.old) × (length samples.now ≤ max_nodes) }
-    requires turn_value { (b : Bool) × (turn ≡ cond b (2 ^ set_bits - 1) 0) }
-    ensures { (b : Bool) → turn ≡ cond b (2 ^ set_bits - 1) 0 → Admits samples.now b mask value u table.old result table.new }
+    requires { (mask < 2 ^ word_bits) × (u < set_bits) × (length samples.now ≤ length table.old) × (length samples.now ≤ max_nodes) }
+    ensures { Admits samples.now TURNED mask value u table.old result table.new }
 {
     let bit = bits::only(u);
     let mut count = 0;
-    let mut v = 0;
-    while v < samples.len() {
-        let hit = (value ^ samples[v]) & mask == 0;
-        table[v] = table[v] | bits::chosen(bit, hit, turn);
-        count += bits::chosen(1, hit, turn);
-        v += 1;
+    for (v, sample) in samples.iter().enumerate() {
+        let agrees = (value ^ *sample) & mask == 0;
+        let hit = agrees != TURNED;
+        table[v] |= bits::picked(bit, hit);
+        count += bits::picked(1, hit);
     }
     count
 }
 
-// Puts a state, turned round or not, into the words of the nodes that it admits; how many they are. The turn is known at each call, so that a plain state's
-// loop spends nothing on it, and a turned one's no more than the count.
+// Puts a state, turned round or not, into the words of the nodes that it admits; how many they are.
 pub fn admit(samples: &[u32], turned: bool, mask: u32, value: u32, u: u32, table: &mut [u32]) -> u32
     requires { (mask < 2 ^ word_bits) × (u < set_bits) × (length samples.now ≤ length table.old) × (length samples.now ≤ max_nodes) }
     ensures { Admits samples.now turned mask value u table.old result table.new }
 {
     if turned {
-        put_turned(samples, bits::ALL, mask, value, u, table)
+        put_turned::<true>(samples, mask, value, u, table)
     } else {
-        put_turned(samples, 0, mask, value, u, table)
+        put_turned::<false>(samples, mask, value, u, table)
     }
 }
 
@@ -59,13 +56,11 @@ pub fn turned_states(masks: &[u32], inverted: u32) -> u32
         return 0;
     }
     let mut wanting = 0;
-    let mut u = 0;
-    while u < masks.len() {
-        let heeded = masks[u] != 0;
+    for (u, mask) in masks.iter().enumerate() {
+        let heeded = *mask != 0;
         if heeded {
             wanting = bits::added(wanting, u as u32);
         }
-        u += 1;
     }
     inverted & wanting
 }
@@ -83,17 +78,15 @@ pub fn admitted(
     ensures { Admitted masks.now values.now turned samples.now result table.new }
 {
     let mut count = 0;
-    let mut u = 0;
-    while u < masks.len() {
+    for (u, mask) in masks.iter().enumerate() {
         count += admit(
             samples,
             bits::has(turned, u as u32),
-            masks[u],
+            *mask,
             values[u],
             u as u32,
             table,
         );
-        u += 1;
     }
     count
 }
@@ -105,14 +98,24 @@ pub fn admitted_at(masks: &[u32], values: &[u32], turned: u32, sample: u32) -> u
     ensures { members result ≡ (λ u. ltb u (length masks.now) && matches word_bits (members turned u) (get_or masks.now u 0) (get_or values.now u 0) sample) }
 {
     let mut all = 0;
-    let mut u = 0;
-    while u < masks.len() {
-        if (values[u] ^ sample) & masks[u] == 0 {
+    for (u, mask) in masks.iter().enumerate() {
+        let agrees = (values[u] ^ sample) & *mask == 0;
+        if agrees {
             all = bits::added(all, u as u32);
         }
-        u += 1;
     }
     bits::differing(all, turned)
+}
+
+// Changes each word of a table by the other's word of the same node.
+fn change_words<F: Fn(u32, u32) -> u32>(table: &mut [u32], other: &[u32], change: F)
+    requires other_len { length other.now ≡ length table.old }
+    requires callable { F.IsAlwaysCallable change }
+    ensures { (v : ℕ) → v < length table.old → F.post change (get_or table.old v 0) (get_or other.now v 0) (get_or table.new v 0) }
+{
+    for (v, word) in table.iter_mut().enumerate() {
+        *word = change(*word, other[v]);
+    }
 }
 
 // Takes the pairs of another table out.
@@ -120,11 +123,7 @@ pub fn take_away(table: &mut [u32], other: &[u32])
     requires { length other.now ≡ length table.old }
     ensures { (length table.new ≡ length table.old) × ((u v : ℕ) → marked table.new u v ≡ (marked table.old u v && not (marked other.now u v))) }
 {
-    let mut v = 0;
-    while v < table.len() {
-        table[v] = bits::difference(table[v], other[v]);
-        v += 1;
-    }
+    change_words(table, other, bits::difference);
 }
 
 // Puts the pairs of another table in.
@@ -132,11 +131,7 @@ pub fn put_together(table: &mut [u32], other: &[u32])
     requires { length other.now ≡ length table.old }
     ensures { (length table.new ≡ length table.old) × ((u v : ℕ) → marked table.new u v ≡ (marked table.old u v || marked other.now u v)) }
 {
-    let mut v = 0;
-    while v < table.len() {
-        table[v] = bits::united(table[v], other[v]);
-        v += 1;
-    }
+    change_words(table, other, bits::united);
 }
 
 // How many pairs a table has, of this many states and nodes.
@@ -145,10 +140,8 @@ pub fn pairs_in(table: &[u32], states: u32, nodes: usize) -> u32
     ensures { result ≡ count (nodes * states) (λ p. marked table.now (p % states) (p / states)) }
 {
     let mut count = 0;
-    let mut v = 0;
-    while v < nodes {
-        count += bits::size(table[v]);
-        v += 1;
+    for word in &table[..nodes] {
+        count += bits::size(*word);
     }
     count
 }

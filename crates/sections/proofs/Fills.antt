@@ -2,12 +2,14 @@
 use Prim.Native.Nat.{ℕ, zero, suc, ◌+◌, ◌-◌, ◌<◌, ◌≤◌}
 use native.Mathlib.Numerals.{add-one}
 use native.Mathlib.Omega.{arith}
-use mathlib.Core.Path.{◌≡◌, refl, ap, ap₂, ◌∙◌}
+use mathlib.Core.Path.{◌≡◌, refl, sym, ap, ap₂, ◌∙◌}
+use mathlib.Core.Logic.{⊎_elim}
 use mathlib.Core.List.{List, [], ◌∷◌, ◌++◌, append-nil}
-use lib.ListN.{length, take, drop, set, length-append, length-take, length-drop, length-set, drop_of_length-le}
-use lib.Seq.{take_at, drop_at}
+use lib.ListN.{length, get_or, replicate, take, drop, set, length-append, length-take, length-drop, length-set, drop_of_length-le, get_or-eq_default}
+use lib.Seq.{take_at, drop_at, ext_get_or}
 use Rattle.session.specs.Layout.{table, section}
-use Rattle.session.proofs.Tables.{section-longer}
+use Rattle.session.proofs.Tables.{section-longer, length-section, get_or-section}
+use Rattle.std.proofs.lemmas.Bool.{cases_lt}
 
 -- the first i places hold the table of f, the others what they held at entry
 pub record Filled (f : ℕ → ℕ) (entry place : List ℕ) (i : ℕ) : Type 0 where
@@ -43,13 +45,30 @@ module _ (f : ℕ → ℕ) (entry : List ℕ) where
       ∙ append-nil (table i f)
       ∙ ap (λ (n : ℕ). table n f) whole
 
+-- zeros alone
+pub section_zeros : (n : ℕ) → replicate n 0 ≡ section n []
+unfolding section table
+section_zeros zero = refl
+section_zeros (suc n) = ap (λ (r : List ℕ). 0 ∷ r) (section_zeros n)
+
+-- a list whose first entries are those of another, and the others zero, is its section
+pub section_filled : (n used : ℕ) (source place : List ℕ) → length place ≡ n → length source ≡ used
+    → ((i : ℕ) → i < used → get_or place i 0 ≡ get_or source i 0)
+    → ((i : ℕ) → used ≤ i → get_or place i 0 ≡ 0)
+    → place ≡ section n source
+section_filled n used source place long few front rest =
+    ext_get_or 0 place (section n source) (long ∙ sym (length-section n source))
+    (λ i l.
+    ⊎_elim (λ (h : i < used). front i h) (λ (h : used ≤ i). rest i h ∙ sym (get_or-eq_default source 0 (omega arith))) (cases_lt i used)
+    ∙ sym (get_or-section n source i (omega arith)))
+
 -- a list is stored at the front of one that is no shorter, and zeros in the places after it
 pub fill_parts : (place source front rest : List ℕ) (n k : ℕ)
     → length source ≡ n
     → n ≤ length place
     → front ≡ source
     → k ≡ length (front ++ drop n place) - n
-    → rest ≡ section (length (take k (drop n (front ++ drop n place)))) []
+    → rest ≡ replicate (length (take k (drop n (front ++ drop n place)))) 0
     → take n (front ++ drop n place) ++ (rest ++ drop k (drop n (front ++ drop n place))) ≡ section (length place) source
 fill_parts place source front rest n k whole l e size zeros =
     let long : length front ≡ n = ap length e ∙ whole in
@@ -57,6 +76,7 @@ fill_parts place source front rest n k whole l e size zeros =
     let left : k ≡ length (drop n place) = omega (arith, size, long, length-append front (drop n place)) in
     let cleared : rest ≡ section (length place - length source) [] =
     zeros
+    ∙ section_zeros (length (take k (drop n (front ++ drop n place))))
     ∙ ap (λ (r : List ℕ). section (length (take k r)) []) past
     ∙ ap (λ (m : ℕ). section m []) (omega (arith, length-take k (drop n place), length-drop n place)) in
     ap₂ ◌++◌ (take_at front (drop n place) n long ∙ e)

@@ -3,23 +3,14 @@ use Prim.Native.Nat.{◌*◌, ◌^◌, ◌%◌}
 use native.Mathlib.Nat.{one-mul}
 use native.Mathlib.Omega.{arith}
 use mathlib.Core.Path.{◌≡◌, refl, ◌∙◌}
-use lib.Pow.{pow_pos, pow_mono, shl_exact}
+use lib.Pow.{shl_exact}
 use Rattle.bits.proofs.Words.{full-members}
-use Rattle.bits.specs.Word.{set_bits}
 use Rattle.bits.proofs.below.Goals as goal
 use Rattle.bits.proofs.below.Goals.{Start}
 
 -- the shift does not wrap
 power : (c : Start) → 1 * 2 ^ c.args.n % 2 ^ 64 ≡ 2 ^ c.args.n
 power c = shl_exact 1 c.args.n 64 (omega arith) (omega arith) ∙ one-mul (2 ^ c.args.n)
-
-pub overflow_sub-result : goal.overflow_sub-result
-overflow_sub-result c =
-    omega (arith, power c, pow_pos c.args.n)
-
-pub overflow_cast-result-2 : goal.overflow_cast-result-2
-overflow_cast-result-2 c =
-    omega (arith, power c, pow_mono {j = set_bits} c.requires)
 
 pub returns : goal.returns
 returns c =

@@ -21,12 +21,12 @@ put c = rw c.has.ensures at c.admit-count.ensures
 pub loop-u-init : goal.loop-u-init
 loop-u-init c =
     let a = c.args in
-    (search rules, search rules, filled-start a.masks.now a.values.now a.turned a.samples.now (search rules) c.requires.masks_value.1)
+    (search rules, filled-start a.masks.now a.values.now a.turned a.samples.now (search rules) c.requires.masks_value.1)
 
 pub admit-count-requires : goal.admit-count-requires
 admit-count-requires c =
     let l = c.loop-u in
-    (below-take (2 ^ word_bits) c.args.masks.now c.requires.masks_value.0 l.u (search rules), search rules, omega (arith, l.invariant.2.long, c.requires), search rules)
+    (below-take (2 ^ word_bits) c.args.masks.now c.requires.masks_value.0 l.u (search rules), search rules, omega (arith, l.invariant.1.long, c.requires), search rules)
 
 pub overflow_add-count : goal.overflow_add-count
 overflow_add-count c =
@@ -37,17 +37,12 @@ pub loop-u-preserved : goal.loop-u-preserved
 loop-u-preserved c =
     let a = c.args in
     let e = put (goal.at.loop-u-preserved c).After-admit-count in (
-      search rules,
       omega (arith, admits-few a.masks.now a.values.now a.turned a.samples.now e),
-      filled_more a.masks.now a.values.now a.turned a.samples.now c.loop-u.invariant.2 e,
+      filled_more a.masks.now a.values.now a.turned a.samples.now c.loop-u.invariant.1 e,
     )
-
-pub shape_of-table : goal.shape_of-table
-shape_of-table c =
-    omega (arith, c.loop-u.invariant.2.long)
 
 pub returns : goal.returns
 returns c =
     let a = c.args in
     let end : c.loop-u.u ≡ length a.masks.now = omega arith in
-    filled-end a.masks.now a.values.now a.turned a.samples.now (rw end at c.loop-u.invariant.2)
+    filled-end a.masks.now a.values.now a.turned a.samples.now (rw end at c.loop-u.invariant.1)

@@ -1,14 +1,9 @@
 -- `admitted` meets its contract: after u states the table has the admitted pairs of these.
-use Prim.Native.Nat.{◌*◌, ◌-◌, ◌≤◌}
-use lib.ListN.{length}
+use Prim.Native.Nat.{◌*◌, ◌≤◌}
 use Rattle.session.specs.Limits.{max_nodes}
 use Rattle.pair_tables.proofs.Admitting.{Filled}
 use Rattle.pair_tables.proofs.admitted.Given as goal
 
 abbrev pub invariant-loop-u : goal.invariant-loop-u
 invariant-loop-u l =
-    (l.u ≤ length l.masks) × (l.count ≤ l.u * max_nodes) × Filled l.masks l.values l.turned l.samples l.u l.count l.table
-
-abbrev pub decreases-loop-u : goal.decreases-loop-u
-decreases-loop-u l =
-    length l.masks - l.u
+    (l.count ≤ l.u * max_nodes) × Filled l.masks l.values l.turned l.samples l.u l.count l.table

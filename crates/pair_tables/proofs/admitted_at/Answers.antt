@@ -11,34 +11,32 @@ use Rattle.session.proofs.Tables.{below-take}
 use Rattle.simulation.proofs.Gains.{gained, gained-none, gained-more, gained_pass}
 use Rattle.pair_tables.proofs.Tabling.{agreeing, agreeing_yes, agreeing_no, agreeing-turned}
 use Rattle.pair_tables.proofs.admitted_at.Goals as goal
-use Rattle.pair_tables.proofs.admitted_at.Goals.{then-values-u-eq0, else-values-u-eq0}
+use Rattle.pair_tables.proofs.admitted_at.Goals.{then-agrees, else-agrees}
 
 pub loop-u-init : goal.loop-u-init
 loop-u-init c =
-    let a = c.args in (search rules, fun_ext zero-members ∙ gained-none none (agreeing a.masks.now a.values.now a.sample))
+    let a = c.args in fun_ext zero-members ∙ gained-none none (agreeing a.masks.now a.values.now a.sample)
 
 pub loop-u-preserved : goal.loop-u-preserved
 loop-u-preserved c =
     let a = c.args in
     let l = c.loop-u in
     let P : Set = agreeing a.masks.now a.values.now a.sample in
-    let small : get_or a.masks.now l.u 0 < 2 ^ word_bits = below-take (2 ^ word_bits) a.masks.now c.requires.values_len.2 l.u (search rules) in (
-      search rules,
-      elim c.if-values-u-eq0.branch [
-        | then-values-u-eq0 w ↦
-            ap members w.all-is
-            ∙ gained-more none P l.u l.invariant.1 (agreeing_yes a.masks.now a.values.now a.sample l.u small w.if-values-u-eq0.true) w.added-all.ensures
-        | else-values-u-eq0 w ↦
-            ap members w.all-is
-            ∙ gained_pass none P l.u l.invariant.1 (agreeing_no a.masks.now a.values.now a.sample l.u small w.if-values-u-eq0.false)
-      ],
-    )
+    let small : get_or a.masks.now l.u 0 < 2 ^ word_bits = below-take (2 ^ word_bits) a.masks.now c.requires.values_len.2 l.u (search rules) in
+    elim c.if-agrees.branch [
+      | then-agrees w ↦
+          ap members w.all-is
+          ∙ gained-more none P l.u l.invariant (agreeing_yes a.masks.now a.values.now a.sample l.u small w.if-agrees.true) w.added-all.ensures
+      | else-agrees w ↦
+          ap members w.all-is
+          ∙ gained_pass none P l.u l.invariant (agreeing_no a.masks.now a.values.now a.sample l.u small w.if-agrees.false)
+    ]
 
 pub returns : goal.returns
 returns c =
     let a = c.args in
     let l = c.loop-u in
     let end : l.u ≡ length a.masks.now = omega arith in
-    let all = l.invariant.1 ∙ ap (gained none (agreeing a.masks.now a.values.now a.sample)) end in
+    let all = l.invariant ∙ ap (gained none (agreeing a.masks.now a.values.now a.sample)) end in
     agreeing-turned a.masks.now a.values.now a.sample (length a.masks.now) a.turned (members l.all) (members c.differing.result)
     c.requires.by_index all c.differing.ensures

@@ -1,7 +1,5 @@
 -- `admitted_at` meets its contract: the states below u that agree with the sample were put in; at the end the set is turned round where it is to be.
-use Prim.Native.Nat.{◌-◌, ◌≤◌}
 use mathlib.Core.Path.{◌≡◌}
-use lib.ListN.{length}
 use Rattle.simulation.specs.Sets.{none}
 use Rattle.bits.specs.Word.{members}
 use Rattle.simulation.proofs.Gains.{gained}
@@ -10,8 +8,4 @@ use Rattle.pair_tables.proofs.admitted_at.Given as goal
 
 abbrev pub invariant-loop-u : goal.invariant-loop-u
 invariant-loop-u l =
-    (l.u ≤ length l.masks) × (members l.all ≡ gained none (agreeing l.masks l.values l.sample) l.u)
-
-abbrev pub decreases-loop-u : goal.decreases-loop-u
-decreases-loop-u l =
-    length l.masks - l.u
+    members l.all ≡ gained none (agreeing l.masks l.values l.sample) l.u

@@ -1,22 +1,11 @@
+-- `put_together` meets its contract: each word is changed by what `bits::united` ensures.
 use borrow.Author.Rules.{rules}
 use mathlib.Core.Path.{refl}
 use mathlib.Core.Bool.{◌||◌}
-use Rattle.pair_tables.proofs.Tabling.{changed-start, changed-step, changed-end}
+use Rattle.pair_tables.proofs.Tabling.{changed_words}
 use Rattle.pair_tables.proofs.put_together.Goals as goal
-
-pub loop-v-init : goal.loop-v-init
-loop-v-init c =
-    let a = c.args in changed-start (◌||◌) a.table.now a.other.now
-
-pub loop-v-preserved : goal.loop-v-preserved
-loop-v-preserved c =
-    let a = c.args in
-    changed-step (◌||◌) a.table.now a.other.now c.loop-v.invariant c.united.result (search rules) c.united.ensures
-
-pub shape_of-table : goal.shape_of-table
-shape_of-table c =
-    c.loop-v.invariant.long
 
 pub returns : goal.returns
 returns c =
-    changed-end (◌||◌) c.args.table.now c.args.other.now c.loop-v.invariant refl c.requires (search rules)
+    let a = c.args in
+    changed_words (◌||◌) a.table.now a.other.now c.change_words.new.table refl c.requires (search rules) (λ v l. search rules)

@@ -1,4 +1,3 @@
-use borrow.Author.Rules.{rules}
 use borrow.Author.Tests.{eq-eqb, ne_eqb}
 use native.Mathlib.Omega.{arith}
 use mathlib.Core.Path.{ap, fun_ext, ◌∙◌}
@@ -18,26 +17,24 @@ returns-then-inverted-eq0 c =
 
 pub loop-u-init : goal.loop-u-init
 loop-u-init c =
-    (search rules, fun_ext zero-members ∙ gained-none none (wanting c.args.masks.now))
+    fun_ext zero-members ∙ gained-none none (wanting c.args.masks.now)
 
 pub loop-u-preserved : goal.loop-u-preserved
 loop-u-preserved c =
     let masks = c.args.masks.now in
     let l = c.loop-u in
-    let mask = get_or masks l.u 0 in (
-      search rules,
-      elim c.if-heeded.branch [
-        | then-heeded w ↦
-            ap members w.wanting-is
-            ∙ gained-more none (wanting masks) l.u l.invariant.1 (ap not (ne_eqb mask 0 w.if-heeded.true)) w.added-wanting.ensures
-        | else-heeded w ↦
-            ap members w.wanting-is
-            ∙ gained_pass none (wanting masks) l.u l.invariant.1 (ap not (eq-eqb mask 0 w.if-heeded.false))
-      ],
-    )
+    let mask = get_or masks l.u 0 in
+    elim c.if-heeded.branch [
+      | then-heeded w ↦
+          ap members w.wanting-is
+          ∙ gained-more none (wanting masks) l.u l.invariant (ap not (ne_eqb mask 0 w.if-heeded.true)) w.added-wanting.ensures
+      | else-heeded w ↦
+          ap members w.wanting-is
+          ∙ gained_pass none (wanting masks) l.u l.invariant (ap not (eq-eqb mask 0 w.if-heeded.false))
+    ]
 
 pub returns : goal.returns
 returns c =
     let a = c.args in
     let l = c.loop-u in
-    turned_are a.masks.now l.u a.inverted l.wanting (omega arith) l.invariant.1
+    turned_are a.masks.now l.u a.inverted l.wanting (omega arith) l.invariant

@@ -1,7 +1,5 @@
 -- `turned_states` meets its contract: the states below u whose mask is not zero were put in.
-use Prim.Native.Nat.{◌-◌, ◌≤◌}
 use mathlib.Core.Path.{◌≡◌}
-use lib.ListN.{length}
 use Rattle.simulation.specs.Sets.{none}
 use Rattle.bits.specs.Word.{members}
 use Rattle.simulation.proofs.Gains.{gained}
@@ -10,8 +8,4 @@ use Rattle.pair_tables.proofs.turned_states.Given as goal
 
 abbrev pub invariant-loop-u : goal.invariant-loop-u
 invariant-loop-u l =
-    (l.u ≤ length l.masks) × (members l.wanting ≡ gained none (wanting l.masks) l.u)
-
-abbrev pub decreases-loop-u : goal.decreases-loop-u
-decreases-loop-u l =
-    length l.masks - l.u
+    members l.wanting ≡ gained none (wanting l.masks) l.u

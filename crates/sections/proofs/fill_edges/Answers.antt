@@ -1,26 +1,31 @@
--- `fill_edges` meets its contract: the numbers of the edges are stored at the front, and the places after them are cleared.
-use mathlib.Core.Path.{refl, sym}
-use lib.ListN.{length}
-use lib.Seq.{length-take-le}
+-- `fill_edges` meets its contract: the numbers are those of the edges, which fit a word as their nodes are few.
+use Prim.Native.Nat.{◌<◌}
+use native.Mathlib.Omega.{arith}
+use borrow.Author.Rules.{rules}
+use mathlib.Core.Path.{◌≡◌, sym, ◌∙◌}
+use lib.ListN.{length, get_or}
+use Rattle.session.specs.Limits.{max_nodes}
 use Rattle.session.specs.Layout.{numbered}
-use Rattle.session.proofs.Tables.{length-numbered}
-use Rattle.sections.proofs.Fills.{fill_parts}
+use Rattle.session.specs.Trigger.{edge_number}
+use Rattle.session.proofs.Tables.{below-take, length-numbered, get_or-table}
+use Rattle.sections.proofs.Fills.{section_filled}
 use Rattle.sections.proofs.fill_edges.Goals as goal
 
-pub slice_bounds-copy_edges-end-2 : goal.slice_bounds-copy_edges-end-2
-slice_bounds-copy_edges-end-2 c =
-    sym (length-take-le (length c.args.starts.now) c.args.place.now c.requires.starts_in_bounds)
-
-pub copy_edges-requires : goal.copy_edges-requires
-copy_edges-requires c =
-    record {
-      starts_value = c.requires.starts_value;
-      ends_len = (c.requires.ends_len, sym (length-take-le (length c.args.starts.now) c.args.place.now c.requires.starts_in_bounds));
-    }
+pub fill_by-requires-clause-callable : goal.fill_by-requires-clause-callable
+fill_by-requires-clause-callable c =
+    λ i l.
+    let a = c.args in
+    let start : get_or a.starts.now i 0 < max_nodes = below-take max_nodes a.starts.now c.requires.starts_value.0 i l in
+    let end : get_or a.ends.now i 0 < max_nodes = below-take max_nodes a.ends.now c.requires.starts_value.1 i (omega (arith, l, c.requires.ends_len)) in
+    search rules
 
 pub returns : goal.returns
 returns c =
     let a = c.args in
-    fill_parts a.place.now (numbered a.starts.now a.ends.now) c.copy_edges.new.place c.clear.new.place
-    (length a.starts.now) _ (length-numbered a.starts.now a.ends.now) c.requires.starts_in_bounds c.copy_edges.ensures refl
-    c.clear.ensures
+    let starts = a.starts.now in
+    let ends = a.ends.now in
+    section_filled (length a.place.now) (length starts) (numbered starts ends) c.fill_by.new.place c.fill_by.auto.place (length-numbered starts ends)
+    (λ i l.
+    let made : get_or c.fill_by.new.place i 0 ≡ edge_number (get_or starts i 0) (get_or ends i 0) = let h = c.fill_by.ensures.front i l in search rules in
+    made ∙ sym (get_or-table (length starts) (λ k. edge_number (get_or starts k 0) (get_or ends k 0)) i l))
+    c.fill_by.ensures.rest

@@ -1,19 +1,12 @@
--- `fill_halves` meets its contract: the source is copied to the front, and the places after it are cleared.
-use mathlib.Core.Path.{refl, sym}
+-- `fill_halves` meets its contract: the numbers are the words of the source.
+use borrow.Author.Rules.{rules}
+use mathlib.Core.Path.{refl}
 use lib.ListN.{length}
-use lib.Seq.{length-take-le}
-use Rattle.sections.proofs.Fills.{fill_parts}
+use Rattle.sections.proofs.Fills.{section_filled}
 use Rattle.sections.proofs.fill_halves.Goals as goal
-
-pub slice_bounds-copy_halves-end-2 : goal.slice_bounds-copy_halves-end-2
-slice_bounds-copy_halves-end-2 c =
-    sym (length-take-le (length c.args.source.now) c.args.place.now c.requires)
-
-pub copy_halves-requires : goal.copy_halves-requires
-copy_halves-requires c =
-    sym (length-take-le (length c.args.source.now) c.args.place.now c.requires)
 
 pub returns : goal.returns
 returns c =
-    fill_parts c.args.place.now c.args.source.now c.copy_halves.new.place c.clear.new.place _ _ refl c.requires
-    c.copy_halves.ensures refl c.clear.ensures
+    let a = c.args in
+    section_filled (length a.place.now) (length a.source.now) a.source.now c.fill_by.new.place c.fill_by.auto.place refl
+    (λ i l. let h = c.fill_by.ensures.front i l in search rules) c.fill_by.ensures.rest
