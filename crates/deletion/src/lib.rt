@@ -36,7 +36,7 @@ pub fn cease(session: &Held, start: u32, table: &mut [u32])
     requires { (start < nodes (graph_of session.now)) × (length table.old ≡ max_nodes) }
     ensures { Ceased session.now start table.new }
 {
-    sections::copy_words(table, session.marks());
+    table.copy_from_slice(session.marks());
     let settled = [0u32; session::MAX_NODES];
     refine_at(session, start, &settled, table);
 }
@@ -47,7 +47,7 @@ pub fn ceased_pairs(session: &Held, table: &[u32]) -> u32
     ensures { result ≡ ceased (trigger_of session.now) (graph_of session.now) (marks_of session.now) (marked table.now) }
 {
     let mut gone = [0u32; session::MAX_NODES];
-    sections::copy_words(&mut gone, session.marks());
+    gone.copy_from_slice(session.marks());
     take_away(&mut gone, table);
     pairs_in(&gone, session.states(), session.nodes())
 }
@@ -66,7 +66,7 @@ pub fn delete_edit(session: &mut [u32], start: u32, end: u32, before: &mut [u32]
             calm: true,
         };
     }
-    sections::copy_words(before, held.marks());
+    before.copy_from_slice(held.marks());
     let mut table = [0u32; session::MAX_NODES];
     cease(&held, start, &mut table);
     let trials = ceased_pairs(&held, &table);

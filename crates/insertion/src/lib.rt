@@ -63,7 +63,7 @@ pub fn insert_edit(session: &mut [u32], start: u32, end: u32, before: &mut [u32]
             calm: true,
         };
     }
-    sections::copy_words(before, held.marks());
+    before.copy_from_slice(held.marks());
     let mut table = [0u32; session::MAX_NODES];
     let trials = try_out(&held, start, seeds, &mut table);
     put_together(&mut table, held.marks());

@@ -149,5 +149,5 @@ pub fn store_marks(session: &mut [u32], table: &[u32])
     requires { (in_layout session.old ≡ true) × (length table.now ≡ max_nodes) × Inside session.old table.now }
     ensures { session.new ≡ image (trigger_of session.old) (graph_of session.old) (marked table.now) ++ drop fixed_size session.old }
 {
-    sections::copy_words(&mut session[session::MARKS_AT..session::FIXED_SIZE], table);
+    session[session::MARKS_AT..session::FIXED_SIZE].copy_from_slice(table);
 }
