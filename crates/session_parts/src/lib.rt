@@ -1,5 +1,5 @@
 // The parts of a session that is in layout, what it admits, and its marks stored.
-#![tactic(auto)]
+#![tactic(auto, using(session::proofs::Decoded::layout_limits), unfolding(session::specs::Layout::trigger_of, session::specs::Layout::graph_of))]
 
 ghost use Rattle.std.specs.Prelude.{ℕ, ◌+◌, ◌<◌, ◌≤◌, ◌≡◌, true, take, drop, length, get_or, ◌++◌};
 ghost use Rattle.session.specs.Limits.{marks_at, max_nodes, fixed_size};
@@ -113,5 +113,5 @@ pub fn store_marks(session: &mut [u32], table: &[u32])
     requires { (in_layout session.old ≡ true) × (length table.now ≡ max_nodes) × Inside session.old table.now }
     ensures { session.new ≡ image (trigger_of session.old) (graph_of session.old) (marked table.now) ++ drop fixed_size session.old }
 {
-    sections::copy_words(&mut session[session::MARKS_AT..session::FIXED_SIZE], table);
+    session[session::MARKS_AT..session::FIXED_SIZE].copy_from_slice(table);
 }

@@ -5,10 +5,6 @@ use Rattle.pair_tables.proofs.Tabling.{turned-below}
 use Rattle.session_parts.proofs.Admitted.{node-admitted}
 use Rattle.session_parts.proofs.admitting.Goals as goal
 
-pub bounds-samples-node : goal.bounds-samples-node
-bounds-samples-node c =
-    rw c.samples_of-samples.ensures c.requires.2
-
 pub admitted_at-requires : goal.admitted_at-requires
 admitted_at-requires c =
     let t = trigger_of c.args.session.now in
