@@ -1,5 +1,5 @@
 // The parts of a session that is in layout, what it admits, and its marks stored.
-#![tactic(auto)]
+#![tactic(auto, using(session::proofs::Decoded::layout_limits), unfolding(session::specs::Layout::trigger_of, session::specs::Layout::graph_of))]
 
 ghost use Rattle.std.specs.Prelude.{List, ℕ, ◌+◌, ◌<◌, ◌≤◌, ◌≡◌, true, take, drop, length, get_or, ◌++◌};
 ghost use Rattle.session.specs.Limits.{marks_at, max_nodes, fixed_size};
@@ -37,7 +37,6 @@ impl<'a> Model for Held<'a> {
     ghost invariant = { λ h. in_layout h.words.now ≡ true };
 }
 
-#[tactic(auto, using(session::proofs::Decoded::layout_limits), unfolding(session::specs::Layout::trigger_of, session::specs::Layout::graph_of))]
 impl<'a> Held<'a> {
     pub fn of(session: &'a [u32]) -> Held<'a>
         requires { in_layout session.now ≡ true }

@@ -1,14 +1,9 @@
 -- The table is copied to the mark section: its words are the mark words of the table's marks.
-use native.Mathlib.Omega.{arith}
 use lib.ListN.{drop}
 use Rattle.session.specs.Limits.{fixed_size}
-use Rattle.session.proofs.Decoded.{layout_limits, layout-whole}
+use Rattle.session.proofs.Decoded.{layout-whole}
 use Rattle.session.proofs.Stores.{put_marks}
 use Rattle.session_parts.proofs.store_marks.Goals as goal
-
-pub slice_bounds-copy_from_slice-end : goal.slice_bounds-copy_from_slice-end
-slice_bounds-copy_from_slice-end c =
-    omega (arith, (layout_limits c.args.session.now c.requires.0).long)
 
 pub returns : goal.returns
 returns c =
