@@ -1,2 +1,2 @@
--- The laws of sign and size.
+-- The sign of a number.
 pub mod Signs
