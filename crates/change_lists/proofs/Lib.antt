@@ -1,2 +1,0 @@
--- The sign of a number.
-pub mod Signs
