@@ -7,10 +7,18 @@ ghost use Rattle.promises.specs.Answers.{told, handed_back};
 ghost use Rattle.frames.specs.Digits as d;
 ghost use Rattle.frames.specs.Outputs as o;
 
-use change_lists::size_of;
 use digits::put_digits;
 use promises::Answer;
 use reports::{changed_part, says};
+
+// The kinds of output lines, by their numbers.
+#[derive(Clone, Copy, Debug, PartialEq, Eq)]
+pub enum Kind {
+    Report = 0x80,
+    Change = 0x81,
+    Order = 0x82,
+    Refusal = 0x8F,
+}
 
 // Writes one byte.
 pub fn put_byte(out: &mut [u8], at: usize, byte: u8) -> usize
@@ -35,8 +43,8 @@ pub fn put_refusal(out: &mut [u8], at: usize, rule: u8) -> usize
     requires { at + 5 ≤ length out.old }
     ensures { Placed out.old at (o.refusal rule) out.new result }
 {
-    let next = put_head(out, at, 143, rule as u32);
-    put_byte(out, next, 10)
+    let next = put_head(out, at, Kind::Refusal as u32, rule as u32);
+    put_byte(out, next, b'\n')
 }
 
 // Writes two numbers of four digits, and the line feed.
@@ -46,7 +54,7 @@ pub fn put_pair(out: &mut [u8], at: usize, first: u32, second: u32) -> usize
 {
     let middle = put_digits(out, at, 4, first);
     let next = put_digits(out, middle, 4, second);
-    put_byte(out, next, 10)
+    put_byte(out, next, b'\n')
 }
 
 // Writes the line of a report.
@@ -54,7 +62,7 @@ pub fn put_report(out: &mut [u8], at: usize, fires: bool, trials: u32, changes: 
     requires { at + o.report_size ≤ length out.old }
     ensures { Placed out.old at (o.report_line fires trials changes) out.new result }
 {
-    let next = put_head(out, at, 128, fires as u32);
+    let next = put_head(out, at, Kind::Report as u32, fires as u32);
     put_pair(out, next, trials, changes)
 }
 
@@ -62,12 +70,7 @@ pub fn put_report(out: &mut [u8], at: usize, fires: bool, trials: u32, changes: 
 pub fn complement(change: i32) -> u32
     ensures { result ≡ o.complement change }
 {
-    let size = size_of(change);
-    if change < 0 {
-        4294967295 - (size - 1)
-    } else {
-        size
-    }
+    change.cast_unsigned()
 }
 
 // Writes the line of a change.
@@ -76,9 +79,9 @@ pub fn put_change(out: &mut [u8], at: usize, change: i32) -> usize
     ensures { Placed out.old at (o.changed change) out.new result }
 {
     let bits = complement(change);
-    let kind = put_digits(out, at, 2, 129);
+    let kind = put_digits(out, at, 2, Kind::Change as u32);
     let next = put_digits(out, kind, 8, bits);
-    put_byte(out, next, 10)
+    put_byte(out, next, b'\n')
 }
 
 // Writes a line for each change.
@@ -87,10 +90,8 @@ pub fn put_changes(out: &mut [u8], at: usize, list: &[i32]) -> usize
     ensures { Placed out.old at (o.each o.changed list.now) out.new result }
 {
     let mut next = at;
-    let mut k = 0;
-    while k < list.len() {
-        next = put_change(out, next, list[k]);
-        k += 1;
+    for &change in list {
+        next = put_change(out, next, change);
     }
     next
 }
@@ -101,10 +102,8 @@ pub fn put_states(out: &mut [u8], at: usize, states: &[u8]) -> usize
     ensures { Placed out.old at (o.each (d.digits 2) states.now) out.new result }
 {
     let mut next = at;
-    let mut k = 0;
-    while k < states.len() {
-        next = put_digits(out, next, 2, states[k] as u32);
-        k += 1;
+    for &state in states {
+        next = put_digits(out, next, 2, state as u32);
     }
     next
 }
@@ -114,9 +113,9 @@ pub fn put_order(out: &mut [u8], at: usize, states: &[u8]) -> usize
     requires { at + (2 * length states.now + 3) ≤ length out.old }
     ensures { Placed out.old at (o.walked states.now) out.new result }
 {
-    let kind = put_digits(out, at, 2, 130);
+    let kind = put_digits(out, at, 2, Kind::Order as u32);
     let next = put_states(out, kind, states);
-    put_byte(out, next, 10)
+    put_byte(out, next, b'\n')
 }
 
 // Writes the lines of an answer with the changes of a room.

@@ -75,9 +75,5 @@ pub fn fill_front(places: &mut [u8], order: &[u8; session::MAX_STATES])
     requires { max_states ≤ length places.old }
     ensures { places.new ≡ section max_states order.now ++ drop max_states places.old }
 {
-    let mut i = 0;
-    while i < session::MAX_STATES {
-        places[i] = order[i];
-        i += 1;
-    }
+    places[..session::MAX_STATES].copy_from_slice(order);
 }

@@ -18,18 +18,14 @@ pub fn change(state: u32, node: u32, begins: bool) -> i32
     ensures { result ≡ signed begins (size_of state node) }
 {
     let size = (node * NODE_SPAN + (state + 1)) as i32;
-    if begins { size } else { 0 - size }
+    if begins { size } else { -size }
 }
 
 // The size of a change.
 pub fn size_of(change: i32) -> u32
     ensures { result ≡ nat_abs change }
 {
-    if change < 0 {
-        (0 - change as i64) as u32
-    } else {
-        change as u32
-    }
+    change.unsigned_abs()
 }
 
 // Whether the pair begins to stand: the change is positive.
@@ -40,7 +36,7 @@ pub fn begins(change: i32) -> bool
 }
 
 // The node of a change, and the number of its state.
-#[derive(Clone, Copy)]
+#[derive(Clone, Copy, Debug, PartialEq, Eq)]
 pub struct Pair {
     pub node: u32,
     pub state: u32,
@@ -86,10 +82,8 @@ pub fn same_words(before: &[u32], after: &[u32], nodes: usize) -> bool
     ensures { result ≡ all_below nodes (λ v. eqb (get_or before.now v 0) (get_or after.now v 0)) }
 {
     let mut all: u32 = 0;
-    let mut v = 0;
-    while v < nodes {
-        all = all | (before[v] ^ after[v]);
-        v += 1;
+    for v in 0..nodes {
+        all |= before[v] ^ after[v];
     }
     all == 0
 }
@@ -110,14 +104,12 @@ pub fn write_changes(
         return 0;
     }
     let mut next = 0;
-    let mut v = 0;
-    while v < nodes {
+    for v in 0..nodes {
         let was = before[v];
         let is = after[v];
         if was != is {
             next = node_changes(changes, next, v as u32, states, was, is);
         }
-        v += 1;
     }
     next
 }

@@ -1,4 +1,5 @@
-// A line is gathered byte by byte. A line longer than any frame is no frame whatever follows, so no more than its front is kept.
+// A line is gathered byte by byte. A line longer than any frame is no frame whatever follows, so no more than its front is kept,
+// in memory with its length beside it: there is no heap.
 #![tactic(auto)]
 
 ghost use Rattle.std.specs.Prelude.{[], ◌∷◌};
@@ -10,7 +11,7 @@ pub const LONGEST_FRAME: usize = 20;
 pub const KEPT: usize = LONGEST_FRAME + 1;
 
 // Where the block is read next, how long the front is then, and whether it is a whole line.
-#[derive(Clone, Copy)]
+#[derive(Clone, Copy, Debug, PartialEq, Eq)]
 pub struct Gathered {
     pub at: usize,
     pub used: usize,
@@ -21,11 +22,7 @@ pub struct Gathered {
 pub fn within(front: &[u8], used: usize) -> usize
     ensures { l.Keeps front.now used [] front.now result }
 {
-    if front.len() < used {
-        front.len()
-    } else {
-        used
-    }
+    used.min(front.len())
 }
 
 // Puts a byte after the front, if there is room for it; how long the front is then.
@@ -44,14 +41,12 @@ pub fn push(front: &mut [u8], used: usize, byte: u8) -> usize
 pub fn gather(front: &mut [u8], used: usize, block: &[u8], at: usize) -> Gathered
     ensures { l.Gathers front.old used block.now at front.new result.used result.at result.ended }
 {
-    let mut next = at;
     let mut len = within(front, used);
-    while next < block.len() {
+    for next in at..block.len() {
         let byte = block[next];
-        next += 1;
-        if byte == 10 {
+        if byte == b'\n' {
             return Gathered {
-                at: next,
+                at: next + 1,
                 used: len,
                 ended: true,
             };

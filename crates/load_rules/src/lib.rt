@@ -54,15 +54,11 @@ pub fn order_wrong(starts: &[u32], ends: &[u32]) -> bool
     requires { length ends.now ≡ length starts.now }
     ensures { result ≡ not (all_below (length starts.now - 1) (λ k. precedes (get_or starts.now k 0) (get_or ends.now k 0) (get_or starts.now (suc k) 0) (get_or ends.now (suc k) 0))) }
 {
-    let mut faults: u32 = 0;
-    let mut k = 1;
-    while k < starts.len() {
-        if !comes_before(starts[k - 1], ends[k - 1], starts[k], ends[k]) {
-            faults = 1;
-        }
-        k += 1;
+    let mut ascend = true;
+    for k in 1..starts.len() {
+        ascend &= comes_before(starts[k - 1], ends[k - 1], starts[k], ends[k]);
     }
-    faults != 0
+    !ascend
 }
 
 // The first rule that a load breaks, if it breaks one.

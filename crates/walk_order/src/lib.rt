@@ -1,4 +1,4 @@
-// The depth-first order of the states: a walk over links that calls itself, with the states visited passed on.
+// The depth-first order of the states: a walk over links that calls itself, and writes each state that it visits.
 #![tactic(auto)]
 
 ghost use Rattle.std.specs.Prelude.{◌≡◌, List, ℕ, ◌<◌, ◌≤◌, length};
@@ -11,6 +11,7 @@ ghost use Rattle.session.specs.Limits.{max_states};
 use session::MAX_STATES;
 
 // What was visited, as a set, and the numbers of the states in the order in which they were; places past them are zero.
+// An array with its length beside it, since the engine has no heap.
 #[derive(Drop)]
 pub struct Walk {
     pub visited: u32,
@@ -18,56 +19,44 @@ pub struct Walk {
     pub len: usize,
 }
 
-// The walk with the state visited and written.
-pub fn written(walk: Walk, state: u32) -> Walk
-    requires { (walk.len < max_states) × (state < max_states) }
-    ensures { Written state walk result }
-{
-    let mut w = walk;
-    let at = w.len;
-    w.visited = bits::added(w.visited, state);
-    w.states[at] = (state + 1) as u8;
-    w.len = at + 1;
-    w
-}
+impl Walk {
+    // The state is visited and written.
+    pub fn write(&mut self, state: u32)
+        requires { (self.old.len < max_states) × (state < max_states) }
+        ensures { Written state self.old self.new }
+    {
+        self.visited = bits::added(self.visited, state);
+        self.states[self.len] = (state + 1) as u8;
+        self.len += 1;
+    }
 
-// Writes the state, then goes along its links in ascending order and visits each target not yet visited.
-pub fn visit(links: &[u32], state: u32, walk: Walk) -> Walk
-    requires { Ready (length links.now) state walk }
-    ensures { Visited links.now state walk result }
-{
-    let word = links[state as usize];
-    let states = links.len() as u32;
-    let mut w = written(walk, state);
-    let mut i: u32 = 0;
-    while i < states {
-        if bits::has(word, i) {
-            let seen = w.visited;
-            if !bits::has(seen, i) {
-                w = visit(links, i, w);
+    // Writes the state, then goes along its links in ascending order and visits each target not yet visited.
+    pub fn visit(&mut self, links: &[u32], state: u32)
+        requires { Ready (length links.now) state self.old }
+        ensures { Visited links.now state self.old self.new }
+    {
+        let word = links[state as usize];
+        let states = links.len() as u32;
+        self.write(state);
+        for i in 0..states {
+            if bits::has(word, i) && !bits::has(self.visited, i) {
+                self.visit(links, i);
             }
         }
-        i += 1;
     }
-    w
-}
 
-// The states that the visit of State One does not reach follow in ascending number.
-pub fn followed(states: u32, walk: Walk) -> Walk
-    requires { (states ≤ max_states) × Counted states walk }
-    ensures { (xs : List ℕ) → WalkOf xs walk → WalkOf (rest states xs) result }
-{
-    let mut w = walk;
-    let mut i: u32 = 0;
-    while i < states {
-        let held = w.visited;
-        let missed = !bits::has(held, i);
-        if missed {
-            w = written(w, i);
+    // The states that the visit of State One does not reach follow in ascending number.
+    pub fn follow(&mut self, states: u32)
+        requires { (states ≤ max_states) × Counted states self.old }
+        ensures { (xs : List ℕ) → WalkOf xs self.old → WalkOf (rest states xs) self.new }
+    {
+        for i in 0..states {
+            let missed = !bits::has(self.visited, i);
+            if missed {
+                self.write(i);
+            }
         }
-        i += 1;
     }
-    w
 }
 
 // The numbers of the states in depth-first order, zeros after them.
@@ -75,12 +64,12 @@ pub fn ordered(links: &[u32]) -> [u8; MAX_STATES]
     requires { (0 < length links.now) × (length links.now ≤ max_states) }
     ensures { result ≡ section max_states (order (linked_by links.now)) }
 {
-    let start = Walk {
+    let mut walk = Walk {
         visited: 0,
-        states: [0u8; MAX_STATES],
+        states: [0; MAX_STATES],
         len: 0,
     };
-    let reached = visit(links, 0, start);
-    let all = followed(links.len() as u32, reached);
-    all.states
+    walk.visit(links, 0);
+    walk.follow(links.len() as u32);
+    walk.states
 }

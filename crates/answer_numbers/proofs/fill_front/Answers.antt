@@ -1,23 +1,23 @@
+-- The order has as many places as the front, and is copied whole.
+use Prim.Native.Nat.{ℕ}
 use native.Mathlib.Omega.{arith}
-use mathlib.Core.Path.{◌≡◌, refl}
-use lib.ListN.{get_or}
+use mathlib.Core.Path.{◌≡◌, sym, ap, ◌∙◌}
+use mathlib.Core.List.{List, ◌++◌}
+use lib.ListN.{length, drop, length-take}
 use Rattle.session.specs.Layout.{section}
-use Rattle.sections.proofs.Fills.{fill_start, fill_step}
 use Rattle.session.specs.Limits.{max_states}
+use Rattle.session.proofs.Tables.{table_of}
 use Rattle.answer_numbers.proofs.fill_front.Goals as goal
 
-pub loop-i-init : goal.loop-i-init
-loop-i-init c =
-    (omega arith, fill_start (λ j. get_or c.args.order.now j 0) c.args.places.now)
+section_whole : (n : ℕ) (xs : List ℕ) → length xs ≡ n → section n xs ≡ xs
+unfolding section
+section_whole n xs long = ap (λ (k : ℕ). section k xs) (sym long) ∙ table_of xs
 
-pub loop-i-preserved : goal.loop-i-preserved
-loop-i-preserved c =
-    let l = c.loop-i in
-    (omega arith, fill_step (λ j. get_or c.args.order.now j 0) c.args.places.now l.places l.i _ l.invariant.1 (omega (arith, c.requires)) refl)
+pub copy_from_slice-requires : goal.copy_from_slice-requires
+copy_from_slice-requires c =
+    omega (arith, c.requires, c.told-order, length-take 32 c.args.places.now)
 
 pub returns : goal.returns
-unfolding section
 returns c =
-    let l = c.loop-i in
-    let end : l.i ≡ max_states = omega arith in
-    rw end at l.invariant.1.holds
+    let whole = sym (section_whole max_states c.args.order.now c.told-order) in
+    ap (λ (front : List ℕ). front ++ drop max_states c.args.places.now) (c.copy_from_slice.ensures.after ∙ whole)

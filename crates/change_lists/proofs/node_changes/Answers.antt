@@ -25,17 +25,9 @@ loop-rest-init c =
     writing_start a.changes.now a.at a.node a.states a.before a.after c.differing.result c.below.result
     c.differing.ensures c.below.ensures.1
 
-pub offset_bounds-changes-next : goal.offset_bounds-changes-next
-offset_bounds-changes-next c =
-    omega (arith, inside (goal.at.offset_bounds-changes-next c).After-lowest-u, c.loop-rest.invariant.long)
-
 pub bounds-changes-next : goal.bounds-changes-next
 bounds-changes-next c =
     inside (goal.at.bounds-changes-next c).After-lowest-u
-
-pub overflow_add-next : goal.overflow_add-next
-overflow_add-next c =
-    omega (arith, inside (goal.at.overflow_add-next c).After-lowest-u, c.loop-rest.invariant.long)
 
 pub loop-rest-smaller : goal.loop-rest-smaller
 loop-rest-smaller c =

@@ -1,7 +1,6 @@
 use Prim.Native.Nat.{ℕ, ◌+◌}
 use native.Mathlib.Numerals.{add-one}
 use native.Mathlib.Omega.{arith}
-use borrow.Author.Rules.{rules}
 use borrow.Author.Tests.{eqb-true, eq-eqb}
 use mathlib.Core.Path.{◌≡◌, refl, sym, ap, ◌∙◌}
 use mathlib.Core.Bool.{Bool, ◌&&◌}
@@ -42,15 +41,10 @@ folded_more bs cs all v h =
 pub loop-v-init : goal.loop-v-init
 unfolding all_below
 loop-v-init c =
-    (search rules, refl)
+    refl
 
 pub loop-v-preserved : goal.loop-v-preserved
 loop-v-preserved c =
     let a = c.args in
     let l = c.loop-v in
-    (search rules, folded_more a.before.now a.after.now l.all l.v l.invariant.1)
-
-pub returns : goal.returns
-returns c =
-    let end : c.loop-v.v ≡ c.args.nodes = omega arith in
-    rw (← end) c.loop-v.invariant.1
+    folded_more a.before.now a.after.now l.all l.v l.invariant

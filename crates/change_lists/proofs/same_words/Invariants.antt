@@ -1,5 +1,4 @@
 -- `same_words` meets its contract: nothing is folded in just where the words so far agree.
-use Prim.Native.Nat.{◌-◌, ◌≤◌}
 use mathlib.Core.Path.{◌≡◌}
 use lib.Dec.{eqb}
 use lib.ListN.{get_or}
@@ -8,8 +7,4 @@ use Rattle.change_lists.proofs.same_words.Given as goal
 
 abbrev pub invariant-loop-v : goal.invariant-loop-v
 invariant-loop-v l =
-    (l.v ≤ l.nodes) × (eqb l.all 0 ≡ all_below l.v (λ j. eqb (get_or l.before j 0) (get_or l.after j 0)))
-
-abbrev pub decreases-loop-v : goal.decreases-loop-v
-decreases-loop-v l =
-    l.nodes - l.v
+    eqb l.all 0 ≡ all_below l.v (λ j. eqb (get_or l.before j 0) (get_or l.after j 0))

@@ -1,7 +1,7 @@
 use native.Mathlib.Omega.{arith}
 use borrow.Author.Rules.{rules}
 use borrow.Author.Tests.{eqb-true}
-use mathlib.Core.Path.{◌≡◌, refl, sym, ◌∙◌}
+use mathlib.Core.Path.{refl, sym, ◌∙◌}
 use lib.Dec.{eqb}
 use lib.ListN.{get_or}
 use Rattle.simulation.proofs.Sets.{all_take}
@@ -23,7 +23,7 @@ returns-then-same_words c =
 pub loop-v-init : goal.loop-v-init
 loop-v-init c =
     let a = c.args in
-    (search rules, search rules, refl, rw table_none (placed-start a.changes.now 0))
+    (search rules, refl, rw table_none (placed-start a.changes.now 0))
 
 pub loop-v-preserved : goal.loop-v-preserved
 loop-v-preserved c =
@@ -35,16 +35,10 @@ loop-v-preserved c =
       | then-was-is w ↦
           let n = w.node_changes-next in
           rw (w.changes-is, w.next-is) (
-            search rules,
             omega (arith, n.ensures.past, node-short l.v a.states (get_or bs l.v 0) (get_or cs l.v 0)),
-            n.auto.changes ∙ l.invariant.2,
-            table_wrote a.states bs cs l.v l.invariant.3 n.ensures,
+            n.auto.changes ∙ l.invariant.1,
+            table_wrote a.states bs cs l.v l.invariant.2 n.ensures,
           )
       | else-was-is w ↦
-          rw (w.changes-is, w.next-is) (search rules, search rules, l.invariant.2, table-passed a.states bs cs l.v l.invariant.3 w.if-was-is.false)
+          rw (w.changes-is, w.next-is) (search rules, l.invariant.1, table-passed a.states bs cs l.v l.invariant.2 w.if-was-is.false)
     ]
-
-pub returns : goal.returns
-returns c =
-    let end : c.loop-v.v ≡ c.args.nodes = omega arith in
-    rw (← end) c.loop-v.invariant.3

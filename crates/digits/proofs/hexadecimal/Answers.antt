@@ -1,33 +1,40 @@
-use borrow.Author.Tests.{lt-ltb, le-ltb}
+use Prim.Native.Nat.{ℕ, ◌+◌}
+use native.Mathlib.Numerals.{add-one}
+use mathlib.Core.Path.{◌≡◌, refl, ap, ◌∙◌}
+use mathlib.Core.Bool.{Bool, true, false, cond, ◌&&◌, and_comm}
 use native.Mathlib.Omega.{arith}
 use lib.Dec.{ltb}
 use lib.ListN.{length, get_or}
-use Rattle.simulation.specs.Sets.{Set}
-use Rattle.simulation.proofs.Folds.{fold_start, fold_pass, fold_fault, fold_end}
+use Rattle.std.proofs.Common.{Some, None}
+use Rattle.std.specs.Option.{is_some}
+use Rattle.simulation.specs.Sets.{Set, all_below}
 use Rattle.frames.specs.Digits as d
 use Rattle.digits.proofs.hexadecimal.Goals as goal
-use Rattle.digits.proofs.hexadecimal.Goals.{then-digit-ge16, else-digit-ge16}
 
-pub loop-k-init : goal.loop-k-init
-loop-k-init c =
-    let a = c.args in fold_start (λ i. ltb (d.digit (get_or a.line.now i 0)) 16) (length a.line.now)
+is-some : {A : Type 0} (b : Bool) (v : A) → is_some (cond b (Some v) None) ≡ b
+is-some true v = refl
+is-some false v = refl
 
-pub loop-k-preserved : goal.loop-k-preserved
-loop-k-preserved c =
+-- one byte more
+all-more : (n : ℕ) (X : Set) (b : Bool) → b ≡ X n → (all_below n X && b) ≡ all_below (n + 1) X
+unfolding all_below
+all-more n X b is = rw (add-one, is) (and_comm (all_below n X) (X n))
+
+pub loop-byte-init : goal.loop-byte-init
+unfolding all_below
+loop-byte-init c =
+    refl
+
+pub loop-byte-preserved : goal.loop-byte-preserved
+loop-byte-preserved c =
     let bs = c.args.line.now in
-    let l = c.loop-k in
-    let P : Set = λ i. ltb (d.digit (get_or bs i 0)) 16 in
-    let v = d.digit (get_or bs l.k 0) in
-    let is = c.digit.ensures in
-    elim c.if-digit-ge16.branch [
-      | then-digit-ge16 w ↦ rw w.faults-is (fold_fault P (length bs) l.k (omega arith) (le-ltb v 16 (rw is at w.if-digit-ge16.true)))
-      | else-digit-ge16 w ↦
-          rw w.faults-is (fold_pass P (length bs) l.faults l.k l.invariant (omega arith) (lt-ltb v 16 (rw is at w.if-digit-ge16.false)))
-    ]
+    let k = c.loop-byte.byte-index in
+    let v = d.digit (get_or bs k 0) in
+    let here = c.is_some-all.ensures ∙ ap is_some c.digit.ensures ∙ is-some (ltb v 16) v in
+    rw c.loop-byte.invariant (all-more k (λ i. ltb (d.digit (get_or bs i 0)) 16) c.is_some-all.result here)
 
 pub returns : goal.returns
 unfolding d.hexadecimal
 returns c =
-    let bs = c.args.line.now in
-    let l = c.loop-k in
-    fold_end (λ i. ltb (d.digit (get_or bs i 0)) 16) (length bs) l.faults l.k l.invariant (omega arith)
+    let over : c.loop-byte.byte-index ≡ length c.args.line.now = omega arith in
+    rw over at c.loop-byte.invariant

@@ -26,10 +26,6 @@ pub overflow_add-result-2 : goal.overflow_add-result-2
 overflow_add-result-2 c =
     record { fits = omega (arith, c.requires, one-or-none (ltb 9 c.args.digit)) }
 
-pub overflow_cast-result-2 : goal.overflow_cast-result-2
-overflow_cast-result-2 c =
-    record { fits = omega (arith, c.requires, one-or-none (ltb 9 c.args.digit)) }
-
 pub returns : goal.returns
 returns c =
     byte_is c.args.digit

@@ -1,5 +1,7 @@
 -- No step leaves 32 bits, and the last is the word of the four letters.
 use native.Mathlib.Omega.{arith}
+use mathlib.Core.Path.{◌∙◌}
+use Rattle.digits.proofs.Fours.{bytes_of}
 use Rattle.digits.proofs.Sums.{bytes_fit, places-fit, raised-fit, word-is}
 use Rattle.digits.proofs.letters.Goals as goal
 
@@ -15,18 +17,18 @@ pub overflow_add-raised : goal.overflow_add-raised
 overflow_add-raised c =
     record { fits = omega (arith, places-fit c.args.value) }
 
-pub overflow_add-result : goal.overflow_add-result
-overflow_add-result c =
+pub overflow_add-word : goal.overflow_add-word
+overflow_add-word c =
     record { fits = omega (arith, places-fit c.args.value) }
 
-pub overflow_mul-result : goal.overflow_mul-result
-overflow_mul-result c =
+pub overflow_mul-word : goal.overflow_mul-word
+overflow_mul-word c =
     record { fits = omega (arith, raised-fit c.args.value) }
 
-pub overflow_add-result-2 : goal.overflow_add-result-2
-overflow_add-result-2 c =
+pub overflow_add-word-2 : goal.overflow_add-word-2
+overflow_add-word-2 c =
     record { fits = omega (arith, places-fit c.args.value, raised-fit c.args.value) }
 
 pub returns : goal.returns
 returns c =
-    word-is c.args.value
+    c.to_le_bytes.ensures ∙ bytes_of c.args.value _ (word-is c.args.value)

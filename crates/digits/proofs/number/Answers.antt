@@ -1,32 +1,30 @@
+-- Each digit is below 16, as the line is hexadecimal.
 use native.Mathlib.Omega.{arith}
-use Rattle.frames.proofs.Hex.{digit-fits, reading-start, reading-more, reading-end, reading-fits}
+use mathlib.Core.Path.{◌≡◌, refl}
+use borrow.Author.Tests.{lt-ltb}
+use Rattle.std.proofs.Common.{Some}
+use lib.ListN.{get_or}
+use Rattle.frames.specs.Digits.{digit}
+use Rattle.frames.proofs.Hex.{digit-fits, reading-more, reading-end}
 use Rattle.digits.proofs.number.Goals as goal
+use Rattle.digits.proofs.number.Goals.{After-digit}
 
-pub loop-k-init : goal.loop-k-init
-loop-k-init c =
-    reading-start c.args.digits.now c.requires.1
+read : (c : After-digit) → c.digit.result ≡ Some (digit (get_or c.args.digits.now c.loop-byte.byte-index 0))
+read c =
+    rw (lt-ltb _ 16 (digit-fits c.args.digits.now c.requires.1 c.loop-byte.byte-index (omega arith))) at c.digit.ensures
 
-pub overflow_mul-value : goal.overflow_mul-value
-overflow_mul-value c =
-    let l = c.loop-k in
-    omega (arith, reading-fits c.args.digits.now l.value l.k 8 l.invariant (omega (arith, c.requires.0)))
+pub unwrap-requires : goal.unwrap-requires
+unwrap-requires c =
+    rw (read (goal.at.unwrap-requires c).After-digit) refl
 
-pub overflow_add-value : goal.overflow_add-value
-overflow_add-value c =
-    let l = c.loop-k in
-    omega (
-      arith,
-      reading-fits c.args.digits.now l.value l.k 8 l.invariant (omega (arith, c.requires.0)),
-      c.digit.ensures,
-      digit-fits c.args.digits.now c.requires.1 l.k (omega arith),
-    )
-
-pub loop-k-preserved : goal.loop-k-preserved
-loop-k-preserved c =
-    let l = c.loop-k in
-    rw c.digit.ensures (reading-more c.args.digits.now c.requires.1 l.value l.k l.invariant (omega arith))
+pub loop-byte-preserved : goal.loop-byte-preserved
+loop-byte-preserved c =
+    let l = c.loop-byte in
+    let is = read (goal.at.loop-byte-preserved c).After-digit in
+    let same : c.unwrap.result ≡ digit (get_or c.args.digits.now l.byte-index 0) = cc in
+    rw same (reading-more c.args.digits.now c.requires.1 l.value l.byte-index l.invariant (omega arith))
 
 pub returns : goal.returns
 returns c =
-    let l = c.loop-k in
-    reading-end c.args.digits.now c.requires.1 l.value l.k l.invariant (omega arith)
+    let l = c.loop-byte in
+    reading-end c.args.digits.now c.requires.1 l.value l.byte-index l.invariant (omega arith)

@@ -1,112 +1,45 @@
-use Prim.Native.Nat.{◌+◌, ◌/◌, ◌^◌, ◌<◌, ◌≤◌}
+use Prim.Native.Nat.{◌+◌, ◌*◌, ◌%◌, ◌≤◌}
 use native.Mathlib.Omega.{arith}
 use mathlib.Core.Path.{◌≡◌, ◌∙◌}
-use lib.Bits.{and_le_r}
-use lib.ListN.{length, length-set}
-use Rattle.frames.proofs.Written.{place-fits, writing_start, writing_next, writing_more, writing_end}
-use Rattle.digits.proofs.Fours.{writing_four, writing_rest}
+use lib.ListN.{length}
+use Rattle.frames.proofs.Written.{Writing, place-fits, writing_next, writing_more, writing_end}
+use Rattle.digits.proofs.Fours.{writing_part, writing_rest}
 use Rattle.digits.proofs.put_digits.Goals as goal
-use Rattle.digits.proofs.put_digits.Goals.{At-loop-left, At-loop-left-2}
+use Rattle.digits.proofs.put_digits.Goals.{After-loop-i}
 
--- where a loop stands, and that what is left has room there
-fours : (c : At-loop-left) → let l = c.loop-left in (l.next + l.left ≡ c.args.at + c.args.count) × (length l.out ≡ length c.args.out.now)
+-- past the fours the rest is left, and has room
+fours : (c : After-loop-i) → let a = c.args in let l = c.loop-i in
+    Writing a.out.now a.at a.count a.value l.out l.next (a.count % 4) × (l.next + a.count % 4 ≤ length l.out)
 fours c =
-    let l = c.loop-left in
-    writing_next c.args.out.now c.args.at c.args.count c.args.value c.requires.1 l.out l.next l.left l.invariant
+    let a = c.args in
+    let l = c.loop-i in
+    let over : a.count % 4 + l.i * 4 ≡ a.count % 4 = omega arith in
+    let w = rw over at l.invariant in
+    (w, omega (arith, c.requires.1, writing_next a.out.now a.at a.count a.value c.requires.1 l.out l.next (a.count % 4) w))
 
-room : (c : At-loop-left) → c.loop-left.next + c.loop-left.left ≤ length c.loop-left.out
-room c = omega (arith, c.requires.1, fours c)
-
-ones : (c : At-loop-left-2) → c.loop-left.next + c.loop-left.left ≤ length c.loop-left.out
-    → let l = c.loop-left in let k = c.loop-left-2 in (k.next + k.left ≡ l.next + l.left) × (length k.out ≡ length l.out)
-ones c r =
-    let l = c.loop-left in
-    let k = c.loop-left-2 in
-    writing_next l.out l.next l.left c.args.value r k.out k.next k.left k.invariant
-
-pub loop-left-init : goal.loop-left-init
-loop-left-init c =
-    writing_start c.args.out.now c.args.at c.args.count c.args.value c.requires.1
-
-pub overflow_mul-left : goal.overflow_mul-left
-overflow_mul-left c =
-    record { fits = omega (arith, c.loop-left.invariant.few, c.requires.0) }
-
-pub overflow_shr-value : goal.overflow_shr-value
-overflow_shr-value c =
-    omega (arith, c.loop-left.invariant.few, c.requires.0)
-
-pub overflow_cast-out : goal.overflow_cast-out
-overflow_cast-out c =
-    record { fits = omega (arith, and_le_r c.letters-word.result 255) }
-
-pub bounds-out-next : goal.bounds-out-next
-bounds-out-next c =
-    omega (arith, room (goal.at.bounds-out-next c).At-loop-left)
-
-pub overflow_cast-out-in-loop-left : goal.overflow_cast-out-in-loop-left
-overflow_cast-out-in-loop-left c =
-    record { fits = omega (arith, and_le_r (c.letters-word.result / 2 ^ 8) 255) }
-
-pub bounds-out-next-in-loop-left : goal.bounds-out-next-in-loop-left
-bounds-out-next-in-loop-left c =
-    let l = c.loop-left in
-    let free : l.next + 1 < length l.out = omega (arith, room (goal.at.bounds-out-next-in-loop-left c).At-loop-left) in
-    rw length-set free
-
-pub overflow_cast-out-in-loop-left-2 : goal.overflow_cast-out-in-loop-left-2
-overflow_cast-out-in-loop-left-2 c =
-    record { fits = omega (arith, and_le_r (c.letters-word.result / 2 ^ 16) 255) }
-
-pub bounds-out-next-in-loop-left-2 : goal.bounds-out-next-in-loop-left-2
-bounds-out-next-in-loop-left-2 c =
-    let l = c.loop-left in
-    let free : l.next + 2 < length l.out = omega (arith, room (goal.at.bounds-out-next-in-loop-left-2 c).At-loop-left) in
-    rw (length-set, length-set) free
-
-pub bounds-out-next-in-loop-left-3 : goal.bounds-out-next-in-loop-left-3
-bounds-out-next-in-loop-left-3 c =
-    let l = c.loop-left in
-    let free : l.next + 3 < length l.out = omega (arith, room (goal.at.bounds-out-next-in-loop-left-3 c).At-loop-left) in
-    rw (length-set, length-set, length-set) free
-
-pub loop-left-preserved : goal.loop-left-preserved
-loop-left-preserved c =
-    let l = c.loop-left in
-    writing_four c.args.out.now c.args.at c.args.count c.args.value c.requires.1 l.out l.next l.left l.invariant c.loop-left-test.true c.letters-word.result
-    c.letters-word.ensures
-
-pub loop-left-2-init : goal.loop-left-2-init
-loop-left-2-init c =
-    let l = c.loop-left in
-    writing_start l.out l.next l.left c.args.value (room (goal.at.loop-left-2-init c).At-loop-left)
-
-pub place-requires : goal.place-requires
-place-requires c =
-    omega (arith, c.loop-left-2.invariant.few, c.loop-left.invariant.few, c.requires.0)
+pub loop-i-preserved : goal.loop-i-preserved
+loop-i-preserved c =
+    let a = c.args in
+    let l = c.loop-i in
+    writing_part a.out.now a.at a.count a.value c.requires.1 l.out l.next _ 4 _ _ _ l.invariant (omega arith) (omega arith)
+    (c.copy_from_slice.ensures.after ∙ c.letters-bytes.ensures)
 
 pub letter-requires : goal.letter-requires
 letter-requires c =
     rw c.place.ensures (place-fits _ _)
 
-pub bounds-out-next-in-loop-left-2-2 : goal.bounds-out-next-in-loop-left-2-2
-bounds-out-next-in-loop-left-2-2 c =
-    omega (arith, ones (goal.at.bounds-out-next-in-loop-left-2-2 c).At-loop-left-2 (room (goal.at.bounds-out-next-in-loop-left-2-2 c).At-loop-left), room (goal.at.bounds-out-next-in-loop-left-2-2 c).At-loop-left)
-
-pub loop-left-2-preserved : goal.loop-left-2-preserved
-loop-left-2-preserved c =
-    let l = c.loop-left in
-    let k = c.loop-left-2 in
+pub loop-i-2-preserved : goal.loop-i-2-preserved
+loop-i-2-preserved c =
+    let l = c.loop-i in
+    let k = c.loop-i-2 in
     rw (c.letter.ensures, c.place.ensures)
-    (writing_more l.out l.next l.left c.args.value (room (goal.at.loop-left-2-preserved c).At-loop-left) k.out k.next k.left k.invariant (omega arith))
-
-pub shape_of-out : goal.shape_of-out
-shape_of-out c =
-    (ones (goal.at.shape_of-out c).At-loop-left-2 (room (goal.at.shape_of-out c).At-loop-left)).1 ∙ (fours (goal.at.shape_of-out c).At-loop-left).1
+    (writing_more l.out l.next (c.args.count % 4) c.args.value (fours (goal.at.loop-i-2-preserved c).After-loop-i).1 k.out k.next k.i k.invariant (omega arith))
 
 pub returns : goal.returns
 returns c =
-    let l = c.loop-left in
-    let k = c.loop-left-2 in
-    let rest = writing_end l.out l.next l.left c.args.value (room (goal.at.returns c).At-loop-left) k.out k.next k.left k.invariant (omega arith) in
-    writing_rest c.args.out.now c.args.at c.args.count c.args.value c.requires.1 l.out l.next l.left l.invariant k.out k.next rest
+    let a = c.args in
+    let l = c.loop-i in
+    let k = c.loop-i-2 in
+    let f = fours (goal.at.returns c).After-loop-i in
+    let rest = writing_end l.out l.next (a.count % 4) a.value f.1 k.out k.next k.i k.invariant (omega arith) in
+    writing_rest a.out.now a.at a.count a.value c.requires.1 l.out l.next (a.count % 4) f.0 k.out k.next rest

@@ -1,14 +1,6 @@
 use native.Mathlib.Omega.{arith}
-use Rattle.frames.proofs.Fronts.{keeps-long, sofar_start, sofar_more, sofar_line, sofar_over}
+use Rattle.frames.proofs.Fronts.{sofar_more, sofar_line, sofar_over}
 use Rattle.line_gathering.proofs.gather.Goals as goal
-
-pub loop-next-init : goal.loop-next-init
-loop-next-init c =
-    let a = c.args in sofar_start a.front.now a.used a.block.now a.at _ c.within-len.ensures
-
-pub shape_of-front-then-byte-eq10 : goal.shape_of-front-then-byte-eq10
-shape_of-front-then-byte-eq10 c =
-    let l = c.loop-next in keeps-long _ _ _ _ _ l.invariant.keeps
 
 pub returns-then-byte-eq10 : goal.returns-then-byte-eq10
 returns-then-byte-eq10 c =
@@ -23,10 +15,6 @@ loop-next-preserved c =
     let p = c.push-len in
     sofar_more a.front.now a.used a.block.now a.at l.front l.len l.next l.invariant (omega arith) (λ e. omega arith)
     p.new.front p.result p.ensures
-
-pub shape_of-front : goal.shape_of-front
-shape_of-front c =
-    let l = c.loop-next in keeps-long _ _ _ _ _ l.invariant.keeps
 
 pub returns : goal.returns
 returns c =

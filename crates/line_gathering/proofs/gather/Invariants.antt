@@ -1,13 +1,7 @@
 -- A byte taken is kept after those before it, and the line feed leaves the loop.
-use Prim.Native.Nat.{◌-◌}
-use lib.ListN.{length}
 use Rattle.frames.proofs.Fronts.{Sofar}
 use Rattle.line_gathering.proofs.gather.Given as goal
 
 abbrev pub invariant-loop-next : goal.invariant-loop-next
 invariant-loop-next l =
     Sofar l.initial.front l.used l.block l.at l.front l.len l.next
-
-abbrev pub decreases-loop-next : goal.decreases-loop-next
-decreases-loop-next l =
-    length l.block - l.next

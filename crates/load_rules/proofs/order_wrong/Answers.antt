@@ -1,39 +1,34 @@
-use Prim.Native.Nat.{suc, ◌+◌, ◌-◌}
+use Prim.Native.Nat.{ℕ, suc, ◌-◌}
 use native.Mathlib.Omega.{arith}
-use mathlib.Core.Path.{◌≡◌, sym, ap, ◌∙◌}
-use mathlib.Core.Bool.{not}
+use mathlib.Core.Path.{◌≡◌, refl, ap}
+use mathlib.Core.Bool.{Bool, not, ◌&&◌, and_comm}
 use lib.ListN.{length}
-use Rattle.simulation.proofs.Folds.{fold_start, fold_pass, fold_fault, fold_end}
+use Rattle.simulation.specs.Sets.{Set, all_below}
 use Rattle.load_rules.proofs.order_wrong.Invariants.{rises}
 use Rattle.load_rules.proofs.order_wrong.Goals as goal
-use Rattle.load_rules.proofs.order_wrong.Goals.{then-not-comes_before, else-not-comes_before}
+
+-- one edge more
+all-more : (j m : ℕ) (X : Set) (a b : Bool) → m ≡ suc j → a ≡ all_below j X → b ≡ X j → (a && b) ≡ all_below m X
+unfolding all_below
+all-more j m X a b next before here = rw (next, before, here) (and_comm (all_below j X) (X j))
 
 pub loop-k-init : goal.loop-k-init
+unfolding all_below
 loop-k-init c =
-    let a = c.args in
-    (omega arith, fold_start (rises a.starts.now a.ends.now) (length a.starts.now - 1))
+    (omega arith, refl)
 
 pub loop-k-preserved : goal.loop-k-preserved
 loop-k-preserved c =
-    let l = c.loop-k in
     let a = c.args in
-    let P = rises a.starts.now a.ends.now in
-    let n = length a.starts.now - 1 in
+    let l = c.loop-k in
     let j = l.k - 1 in
-    let t = c.comes_before in
     let here : suc j ≡ l.k = omega arith in
-    let next : l.k + 1 - 1 ≡ j + 1 = omega arith in
-    let test : t.result ≡ P j = rw here t.ensures in (
-      omega arith,
-      rw next
-          (elim c.if-not-comes_before.branch [
-            | then-not-comes_before w ↦ rw w.faults-is (fold_fault P n j (omega arith) (sym test ∙ w.if-not-comes_before.true))
-            | else-not-comes_before w ↦ rw w.faults-is (fold_pass P n l.faults j l.invariant.1 (omega arith) (sym test ∙ w.if-not-comes_before.false))
-          ]),
-    )
+    let test = c.comes_before-ascend in
+    (omega arith, all-more j _ (rises a.starts.now a.ends.now) l.ascend test.result (omega arith) l.invariant.1 (rw here test.ensures))
 
 pub returns : goal.returns
 returns c =
     let a = c.args in
     let l = c.loop-k in
-    ap not (fold_end (rises a.starts.now a.ends.now) (length a.starts.now - 1) l.faults (l.k - 1) l.invariant.1 (omega arith))
+    let over : l.k - 1 ≡ length a.starts.now - 1 = omega arith in
+    ap not (rw over at l.invariant.1)

@@ -1,9 +1,9 @@
--- `order_wrong` meets its contract: a fault is noted where an edge does not come before the next.
+-- `order_wrong` meets its contract: each edge so far comes before the next.
 use Prim.Native.Nat.{ℕ, suc, ◌-◌, ◌≤◌}
+use mathlib.Core.Path.{◌≡◌}
 use mathlib.Core.List.{List}
 use lib.ListN.{length, get_or}
-use Rattle.simulation.specs.Sets.{Set}
-use Rattle.simulation.proofs.Folds.{Folded}
+use Rattle.simulation.specs.Sets.{Set, all_below}
 use Rattle.promises.specs.Rules.{precedes}
 use Rattle.load_rules.proofs.order_wrong.Given as goal
 
@@ -13,8 +13,4 @@ rises starts ends j = precedes (get_or starts j 0) (get_or ends j 0) (get_or sta
 
 abbrev pub invariant-loop-k : goal.invariant-loop-k
 invariant-loop-k l =
-    (1 ≤ l.k) × Folded (rises l.starts l.ends) (length l.starts - 1) l.faults (l.k - 1)
-
-abbrev pub decreases-loop-k : goal.decreases-loop-k
-decreases-loop-k l =
-    length l.starts - l.k
+    (l.k - 1 ≤ length l.starts - 1) × (l.ascend ≡ all_below (l.k - 1) (rises l.starts l.ends))

@@ -1,2 +1,0 @@
--- The laws of sign and size.
-pub mod Signs
