@@ -90,47 +90,57 @@ module _ (xs : List ℕ) where
   filled-here v e =
       next v ∙ ap (λ (b : Bool). cond b (filled xs v) (get_or xs (v + 1) 0)) (ne_eqb (get_or xs (v + 1) 0) 0 e)
 
+-- the place that is carried to v
+pub carried_to : List ℕ → ℕ → ℕ
+carried_to xs zero = 0
+carried_to xs (suc v) = filled xs v
+
 pub record Filling (xs ys : List ℕ) (place v : ℕ) : Type 0 where
-  pub some : 0 < v
   pub within : v ≤ starts_size
   pub long : length ys ≡ starts_size
-  pub carried : place ≡ filled xs (v - 1)
+  pub carried : place ≡ carried_to xs v
   pub done : (w : ℕ) → w < v → get_or ys w 0 ≡ filled xs w
   pub left : (w : ℕ) → v ≤ w → get_or ys w 0 ≡ get_or xs w 0
 
-pub filling_none : {xs : List ℕ} → length xs ≡ starts_size → Filling xs xs (get_or xs 0 0) 1
-unfolding filled
+pub filling_none : {xs : List ℕ} → length xs ≡ starts_size → Filling xs xs 0 0
+unfolding carried_to
 filling_none {xs} l =
     record {
-      some = omega arith;
       within = omega arith;
       long = l;
       carried = refl;
-      done = λ w h. let at : w ≡ 0 = omega arith in rw at refl;
+      done = λ w h. absurd (omega arith);
       left = λ w h. refl;
     }
 
 module _ {xs ys : List ℕ} {place v : ℕ} (x : Filling xs ys place v) (inside : v < starts_size) where
-  back : v - 1 + 1 ≡ v
-  back = omega (arith, x.some)
-
   same : get_or ys v 0 ≡ get_or xs v 0
   same = x.left v (omega arith)
 
+  before : (u : ℕ) → carried_to xs u ≡ place → get_or xs u 0 ≡ 0 → place ≡ filled xs u
+  unfolding carried_to filled
+  before zero c e = sym c ∙ sym e
+  before (suc u) c e = sym c ∙ sym (rw add-one at (filled_on xs u (rw add-one e)))
+
   -- the place before goes on where nothing was noted
   pub filled-before : get_or ys v 0 ≡ 0 → place ≡ filled xs v
-  filled-before e = x.carried ∙ sym (rw back at (filled_on xs (v - 1) (rw back (sym same ∙ e))))
+  filled-before e = before v (sym x.carried) (sym same ∙ e)
+
+  noted_at : (u : ℕ) → (get_or xs u 0 ≡ 0 → ⊥) → get_or xs u 0 ≡ filled xs u
+  unfolding filled
+  noted_at zero ne = refl
+  noted_at (suc u) ne = sym (rw add-one at (filled-here xs u (rw add-one ne)))
 
   pub filled-noted : (get_or ys v 0 ≡ 0 → ⊥) → get_or ys v 0 ≡ filled xs v
-  filled-noted ne = same ∙ sym (rw back at (filled-here xs (v - 1) (rw back (λ t. ne (same ∙ t)))))
+  filled-noted ne = same ∙ noted_at v (λ t. ne (same ∙ t))
 
   pub filling_next : (place' : ℕ) → place' ≡ filled xs v → Filling xs (set ys v place') place' (v + 1)
+  unfolding carried_to
   filling_next place' e =
       record {
-        some = omega arith;
         within = omega arith;
         long = length-set ys v place' ∙ x.long;
-        carried = e ∙ ap (filled xs) (omega arith);
+        carried = e ∙ sym (ap (carried_to xs) (add-one v));
         done = done;
         left = λ w h. get_or-set_other ys v w place' 0 (λ (t : w ≡ v). omega arith) ∙ x.left w (omega arith);
       }

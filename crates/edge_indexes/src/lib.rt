@@ -8,17 +8,16 @@ ghost use Rattle.edge_indexes.specs.Indexes.{Indexed, Noted, filled, Started, ed
 ghost use Rattle.simulation.specs.Ordered.{ascends};
 
 // Builds the index of the edges that end at each node, in tables that are zero.
+#[tactic(auto, using(crate::proofs::Incoming::indexing_none, crate::proofs::Incoming::indexing_done))]
 pub fn index(edges: &[u32], heads: &mut [u32], nexts: &mut [u32])
     requires edges_len_bound { (length edges.now ≤ max_edges) × (length heads.old ≡ max_nodes) × (length nexts.old ≡ max_edges) }
     requires by_index { (v : ℕ) → get_or heads.old v 0 ≡ 0 }
     ensures { Indexed edges.now heads.new nexts.new }
 {
-    let mut k = 0;
-    while k < edges.len() {
-        let end = (edges[k] % session::EDGE_BASE) as usize;
+    for (k, edge) in edges.iter().enumerate() {
+        let end = (edge % session::EDGE_BASE) as usize;
         nexts[k] = heads[end];
         heads[end] = (k + 1) as u32;
-        k += 1;
     }
 }
 
@@ -26,37 +25,35 @@ pub fn index(edges: &[u32], heads: &mut [u32], nexts: &mut [u32])
 pub const STARTS: usize = session::MAX_NODES + 1;
 
 // Notes for each node that has edges, in the place of the next node, where they end. The last of them is written last.
+#[tactic(auto, using(crate::proofs::Firsts::noting_none, crate::proofs::Firsts::noting_done))]
 pub fn note_ends(edges: &[u32], firsts: &mut [u32])
     requires edges_len_bound { (length edges.now ≤ max_edges) × (below edge_numbers edges.now ≡ true) × (length firsts.old ≡ starts_size) }
     requires by_index { (v : ℕ) → get_or firsts.old v 0 ≡ 0 }
     ensures { Noted edges.now firsts.new }
 {
-    let mut k = 0;
-    while k < edges.len() {
-        let start = (edges[k] / session::EDGE_BASE) as usize;
+    for (k, edge) in edges.iter().enumerate() {
+        let start = (edge / session::EDGE_BASE) as usize;
         firsts[start + 1] = (k + 1) as u32;
-        k += 1;
     }
 }
 
 // Where nothing was noted, the place before goes on; it is carried along, so that no read waits for a store.
+#[tactic(auto, using(crate::proofs::Firsts::filling_none))]
 pub fn fill_in(firsts: &mut [u32])
     requires { length firsts.old ≡ starts_size }
     ensures { (length firsts.new ≡ starts_size) × ((v : ℕ) → v < starts_size → get_or firsts.new v 0 ≡ filled firsts.old v) }
 {
-    let mut place = firsts[0];
-    let mut v = 1;
-    while v < STARTS {
-        let noted = firsts[v];
-        if noted != 0 {
-            place = noted;
+    let mut place = 0;
+    for first in firsts.iter_mut() {
+        if *first != 0 {
+            place = *first;
         }
-        firsts[v] = place;
-        v += 1;
+        *first = place;
     }
 }
 
 // Builds the index of where the edges of each node begin, in a table that is zero.
+#[tactic(auto, using(crate::proofs::Firsts::started))]
 pub fn index_starts(edges: &[u32], firsts: &mut [u32])
     requires edges_len_bound { (length edges.now ≤ max_edges) × (ascends edges.now ≡ true) × (below edge_numbers edges.now ≡ true) × (length firsts.old ≡ starts_size) }
     requires by_index { (v : ℕ) → get_or firsts.old v 0 ≡ 0 }
@@ -67,6 +64,7 @@ pub fn index_starts(edges: &[u32], firsts: &mut [u32])
 }
 
 // The edges of the node v: their range is found by halving.
+#[tactic(auto, using(simulation::proofs::Edges::from_le, simulation::proofs::Edges::from_mono, crate::proofs::Ranges::range_from))]
 pub fn edges_from(edges: &[u32], v: usize) -> &[u32]
     requires { (ascends edges.now ≡ true) × (length edges.now ≤ max_edges) × (v < max_nodes) }
     ensures { result.now ≡ edges_from edges.now v }
@@ -77,6 +75,7 @@ pub fn edges_from(edges: &[u32], v: usize) -> &[u32]
 }
 
 // The edges of the node v: by the index of first edges, or by halving where there is none.
+#[tactic(auto, using(simulation::proofs::Edges::from_le, simulation::proofs::Edges::from_mono, crate::proofs::Ranges::range_from))]
 pub fn edges_at<'a>(edges: &'a [u32], firsts: &[u32], v: usize) -> &'a [u32]
     requires edges_value { (ascends edges.now ≡ true) × (length edges.now ≤ max_edges) × (v < max_nodes) }
     requires started { (length firsts.now ≡ 0 → ⊥) → Started edges.now firsts.now }

@@ -8,6 +8,7 @@ ghost use Rattle.session.specs.Reached.{reached, linked_by};
 ghost use Rattle.links.specs.Links.{linked_from, links_to, Callers};
 
 // The states to which a state of the word has a link.
+#[tactic(auto, using(simulation::proofs::Loops::without_falls))]
 pub fn linked(links: &[u32], word: u32) -> u32
     requires { length links.now ≤ set_bits }
     ensures { members result ≡ linked_from links.now word }
@@ -28,17 +29,16 @@ pub fn linking(links: &[u32], word: u32) -> u32
     ensures { members result ≡ links_to links.now word }
 {
     let mut all = 0;
-    let mut u = 0;
-    while u < links.len() {
-        if bits::meet(links[u], word) {
+    for (u, targets) in links.iter().enumerate() {
+        if bits::meet(*targets, word) {
             all = bits::added(all, u as u32);
         }
-        u += 1;
     }
     all
 }
 
 // The states of the word without a link to one of the others. Only its members are gone through.
+#[tactic(auto, using(simulation::proofs::Loops::without_falls, crate::proofs::LinkSets::thinned_start, crate::proofs::LinkSets::thinned_out, crate::proofs::LinkSets::thinned_pass, crate::proofs::LinkSets::thinned_done))]
 pub fn unlinked(links: &[u32], word: u32, others: u32) -> u32
     requires { length links.now ≤ set_bits }
     ensures { members result ≡ minus (members word) (links_to links.now others) }
@@ -57,6 +57,7 @@ pub fn unlinked(links: &[u32], word: u32, others: u32) -> u32
 
 // The states that a chain of links reaches from State One. Each is gone through once; `left` has those that no chain has met, `rest` those whose links
 // are still to be followed.
+#[tactic(auto, using(crate::proofs::Reaching::reaching_less))]
 pub fn reached(links: &[u32]) -> u32
     requires { (0 < length links.now) × (length links.now ≤ set_bits) }
     ensures { members result ≡ reached (linked_by links.now) }
@@ -77,6 +78,7 @@ pub fn reached(links: &[u32]) -> u32
 pub const CALLERS: usize = bits::SET_BITS;
 
 // Puts a state into the words of its targets.
+#[tactic(auto, using(simulation::proofs::Loops::without_falls, crate::proofs::CallerTables::calling_start, crate::proofs::CallerTables::calling_end))]
 pub fn call_for(callers: &mut [u32], targets: u32, u: u32)
     requires { (length callers.old ≡ set_bits) × (u < set_bits) }
     ensures { (x o : ℕ) → members (get_or callers.new o 0) x ≡ (members (get_or callers.old o 0) x || (eqb x u && members targets o)) }
@@ -90,14 +92,13 @@ pub fn call_for(callers: &mut [u32], targets: u32, u: u32)
 }
 
 // Fills a table that is zero with the callers of each state.
+#[tactic(auto, using(crate::proofs::CallerTables::called_more))]
 pub fn index_callers(links: &[u32], callers: &mut [u32])
     requires { (length links.now ≤ set_bits) × (length callers.old ≡ set_bits) × ((o : ℕ) → get_or callers.old o 0 ≡ 0) }
     ensures { Callers links.now callers.new }
 {
-    let mut u = 0;
-    while u < links.len() {
-        call_for(callers, links[u], u as u32);
-        u += 1;
+    for (u, targets) in links.iter().enumerate() {
+        call_for(callers, *targets, u as u32);
     }
 }
 

@@ -3,19 +3,18 @@
 
 ghost use Rattle.std.specs.Prelude.{◌≡◌, true, ◌&&◌, ◌||◌, not, ℕ, ◌/◌, ◌%◌, ◌<◌, ◌≤◌, eqb, length, get_or};
 ghost use Rattle.simulation.specs.Sets.{also, without};
-ghost use Rattle.simulation.specs.Search.{first};
 ghost use Rattle.bits.specs.Word.{overlaps, members, set_bits};
 ghost use Rattle.session.specs.Limits.{max_edges, max_nodes, edge_numbers};
 ghost use Rattle.session.specs.Layout.{below};
 ghost use Rattle.edge_indexes.specs.Indexes.{Indexed, predecessors};
-ghost use Rattle.worklist.specs.Waiting.{waits, waiting_words};
+ghost use Rattle.worklist.specs.Waiting.{waits, waiting_words, IsLowest};
 
 use bits::SET_BITS;
 
 // A bit for each node.
 pub const WAITING_WORDS: usize = session::MAX_NODES / SET_BITS;
 
-// Puts a node in.
+// Puts a node in. This and the next are one line each; one function over both would be longer.
 pub fn put_in(waiting: &mut [u32], node: usize)
     requires { (length waiting.old ≡ waiting_words) × (node < max_nodes) }
     ensures { (length waiting.new ≡ waiting_words) × (waits waiting.new ≡ also (waits waiting.old) node) }
@@ -31,20 +30,17 @@ pub fn take_out(waiting: &mut [u32], node: usize)
     waiting[node / SET_BITS] = bits::removed(waiting[node / SET_BITS], (node % SET_BITS) as u32);
 }
 
-// The lowest node that waits, and the number of nodes where none does.
-pub fn lowest_in(waiting: &[u32]) -> usize
+// The lowest node that waits, if one does.
+pub fn lowest_in(waiting: &[u32]) -> Option<usize>
     requires { length waiting.now ≡ waiting_words }
-    ensures { result ≡ first (waits waiting.now) 0 max_nodes }
+    ensures { IsLowest waiting.now result }
 {
-    let mut i = 0;
-    while i < WAITING_WORDS {
-        let word = waiting[i];
-        if word != 0 {
-            return i * SET_BITS + bits::lowest(word) as usize;
+    for (i, word) in waiting.iter().enumerate() {
+        if *word != 0 {
+            return Some(i * SET_BITS + bits::lowest(*word) as usize);
         }
-        i += 1;
     }
-    session::MAX_NODES
+    None
 }
 
 // Puts every node in that has an edge to this one, and in a table a state of the word: by the index.
@@ -91,10 +87,8 @@ pub fn call_in_by_edges(waiting: &mut [u32], edges: &[u32], node: usize, table: 
     requires edges_value { below edge_numbers edges.now ≡ true }
     ensures { (length waiting.new ≡ waiting_words) × (waits waiting.new ≡ (λ w. waits waiting.old w || (predecessors edges.now node w && overlaps (get_or table.now w 0) word))) }
 {
-    let mut k = 0;
-    while k < edges.len() {
-        call_one(waiting, edges[k], node, table, word);
-        k += 1;
+    for edge in edges {
+        call_one(waiting, *edge, node, table, word);
     }
 }
 
@@ -125,10 +119,8 @@ pub fn held_among(part: &[u32]) -> u32
     ensures { (k : ℕ) → members result k ≡ not (eqb (get_or part.now k 0) 0) }
 {
     let mut all = 0;
-    let mut k = 0;
-    while k < part.len() {
-        all = all | bits::picked(bits::only(k as u32), part[k] != 0);
-        k += 1;
+    for (k, pairs) in part.iter().enumerate() {
+        all = all | bits::picked(bits::only(k as u32), *pairs != 0);
     }
     all
 }
@@ -138,11 +130,9 @@ pub fn call_all(table: &[u32], waiting: &mut [u32])
     requires { (length table.now ≡ max_nodes) × (length waiting.old ≡ waiting_words) }
     ensures { (length waiting.new ≡ waiting_words) × ((v : ℕ) → waits waiting.new v ≡ (waits waiting.old v || not (eqb (get_or table.now v 0) 0))) }
 {
-    let mut i = 0;
-    while i < WAITING_WORDS {
+    for i in 0..WAITING_WORDS {
         let at = i * SET_BITS;
         let end = at + SET_BITS;
         waiting[i] = bits::united(waiting[i], held_among(&table[at..end]));
-        i += 1;
     }
 }

@@ -1,13 +1,7 @@
 -- `index` meets its contract: before edge k the tables are the index of the edges before it.
-use Prim.Native.Nat.{◌-◌}
-use lib.ListN.{length}
 use Rattle.edge_indexes.proofs.Incoming.{Indexing}
 use Rattle.edge_indexes.proofs.index.Given as goal
 
 abbrev pub invariant-loop-k : goal.invariant-loop-k
 invariant-loop-k l =
     Indexing l.edges l.heads l.nexts l.k
-
-abbrev pub decreases-loop-k : goal.decreases-loop-k
-decreases-loop-k l =
-    length l.edges - l.k

@@ -1,14 +1,8 @@
 -- By the table the members of the word alone tell, which is the same.
-use native.Mathlib.Omega.{arith}
-use native.Mathlib.Omega.{arith}
 use mathlib.Core.Path.{◌∙◌}
 use Rattle.bits.specs.Word.{set_bits}
 use Rattle.links.proofs.CallerTables.{callers_linked}
 use Rattle.links.proofs.calling.Goals as goal
-
-pub linked-requires : goal.linked-requires
-linked-requires c =
-    omega (arith, (c.requires.1 c.if-callers-eq0.false).long)
 
 pub returns : goal.returns
 returns c =

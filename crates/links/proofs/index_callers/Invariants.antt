@@ -1,14 +1,8 @@
 -- `index_callers` meets its contract: before state u the states below it are in the words of their targets.
-use Prim.Native.Nat.{◌-◌}
 use Rattle.bits.specs.Word.{set_bits}
 use Rattle.links.proofs.CallerTables.{Called}
-use lib.ListN.{length}
 use Rattle.links.proofs.index_callers.Given as goal
 
 abbrev pub invariant-loop-u : goal.invariant-loop-u
 invariant-loop-u l =
     Called set_bits l.links l.u l.callers
-
-abbrev pub decreases-loop-u : goal.decreases-loop-u
-decreases-loop-u l =
-    length l.links - l.u

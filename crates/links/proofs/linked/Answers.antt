@@ -1,7 +1,6 @@
 use Rattle.bits.proofs.Words.{and-members}
-use Rattle.bits.specs.Word.{members, set_bits}
+use Rattle.bits.specs.Word.{members}
 use Rattle.links.proofs.LinkSets.{linking-start, linking-next, linking-done}
-use Rattle.simulation.proofs.Loops.{without_falls}
 use Rattle.simulation.specs.Sets.{Set, without}
 use mathlib.Core.Bool.{◌&&◌}
 use mathlib.Core.Path.{◌≡◌, ap, ◌∙◌}
@@ -17,14 +16,6 @@ loop-rest-init c =
     let a = c.args in
     linking-start a.links.now a.word _
     (λ u. and-members a.word c.below.result u ∙ ap (λ (X : Set). members a.word u && X u) c.below.ensures.1)
-
-pub bounds-links-u : goal.bounds-links-u
-bounds-links-u c =
-    c.loop-rest.invariant.small c.lowest-u.result c.lowest-u.ensures.1
-
-pub loop-rest-smaller : goal.loop-rest-smaller
-loop-rest-smaller c =
-    rw (gone c) (without_falls set_bits (members c.loop-rest.rest) c.lowest-u.result c.lowest-u.ensures.0 c.lowest-u.ensures.1)
 
 pub loop-rest-preserved : goal.loop-rest-preserved
 loop-rest-preserved c =

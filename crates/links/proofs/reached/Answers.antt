@@ -1,7 +1,7 @@
 use mathlib.Core.Path.{◌≡◌}
 use Rattle.simulation.specs.Sets.{without}
 use Rattle.bits.specs.Word.{members}
-use Rattle.links.proofs.Reaching.{reaching_start, reaching_next, reaching_less, reaching_done}
+use Rattle.links.proofs.Reaching.{reaching_start, reaching_next, reaching_done}
 use Rattle.links.proofs.reached.Goals as goal
 use Rattle.links.proofs.reached.Goals.{After-without_lowest}
 
@@ -12,16 +12,6 @@ gone c = let low = c.lowest-u in c.without_lowest.ensures low.result low.ensures
 pub loop-rest-init : goal.loop-rest-init
 loop-rest-init c =
     reaching_start c.args.links.now c.below-all.result c.difference-left.result c.requires.0 c.below-all.ensures.1 c.difference-left.ensures
-
-pub bounds-links-u : goal.bounds-links-u
-bounds-links-u c =
-    (c.loop-rest.invariant.waits c.lowest-u.result c.lowest-u.ensures.1).0
-
-pub loop-rest-smaller : goal.loop-rest-smaller
-loop-rest-smaller c =
-    let a = c.args in
-    let low = c.lowest-u in
-    reaching_less a.links.now c.loop-rest.left c.loop-rest.rest c.loop-rest.invariant low.result c.without_lowest.result c.difference-left-in-loop-rest.result low.ensures.1 (gone c) c.difference-left-in-loop-rest.ensures low.ensures.0
 
 pub loop-rest-preserved : goal.loop-rest-preserved
 loop-rest-preserved c =

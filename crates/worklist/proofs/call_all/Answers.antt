@@ -1,25 +1,19 @@
 use Prim.Native.Nat.{ℕ, ◌+◌, ◌-◌, ◌*◌}
-use borrow.Author.Rules.{rules}
 use native.Mathlib.Omega.{arith}
 use mathlib.Core.Path.{◌≡◌, ap, ◌∙◌}
 use lib.ListN.{length-set}
 use Rattle.worklist.specs.Waiting.{waiting_words}
-use Rattle.worklist.proofs.Occupied.{called, called-none, called-step, called-all}
+use Rattle.worklist.proofs.Occupied.{called, called-step, called-all}
 use Rattle.bits.specs.Word.{set_bits}
 use Rattle.worklist.proofs.call_all.Goals as goal
-
-pub loop-i-init : goal.loop-i-init
-loop-i-init c =
-    (search rules, c.requires.1, called-none c.args.waiting.now c.args.table.now)
 
 pub loop-i-preserved : goal.loop-i-preserved
 loop-i-preserved c =
     let a = c.args in
     let l = c.loop-i in (
-      search rules,
-      length-set l.waiting l.i c.united.result ∙ l.invariant.1,
-      called-step a.waiting.now a.table.now l.i l.waiting l.invariant.2 (l.i * set_bits + set_bits - l.i * set_bits) c.held_among.result c.united.result
-          (omega arith) (omega (arith, l.invariant.1)) c.held_among.ensures c.united.ensures,
+      length-set l.waiting l.i c.united.result ∙ l.invariant.0,
+      called-step a.waiting.now a.table.now l.i l.waiting l.invariant.1 (l.i * set_bits + set_bits - l.i * set_bits) c.held_among.result c.united.result
+          (omega arith) (omega (arith, l.invariant.0)) c.held_among.ensures c.united.ensures,
     )
 
 pub returns : goal.returns
@@ -27,6 +21,6 @@ returns c =
     let a = c.args in
     let l = c.loop-i in
     let end : l.i ≡ waiting_words = omega arith in (
-      l.invariant.1,
-      λ v. l.invariant.2 v ∙ ap (λ (i : ℕ). called a.waiting.now a.table.now i v) end ∙ called-all a.waiting.now a.table.now c.requires.0 v,
+      l.invariant.0,
+      λ v. l.invariant.1 v ∙ ap (λ (i : ℕ). called a.waiting.now a.table.now i v) end ∙ called-all a.waiting.now a.table.now c.requires.0 v,
     )

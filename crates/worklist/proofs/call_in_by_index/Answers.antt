@@ -12,21 +12,9 @@ use Rattle.session.specs.Limits.{edge_numbers}
 use Rattle.worklist.proofs.call_in_by_index.Goals as goal
 use Rattle.worklist.proofs.call_in_by_index.Goals.{then-meet, else-meet}
 
-pub overflow_cast-next : goal.overflow_cast-next
-overflow_cast-next c =
-    omega (arith, c.type_inv.heads c.args.node)
-
 pub loop-next-init : goal.loop-next-init
 loop-next-init c =
     (search rules, calling_none c.requires.edges_value.1 (λ w. overlaps (get_or c.args.table.now w 0) c.args.word) c.args.node c.args.waiting.now (omega arith))
-
-pub overflow_cast-start : goal.overflow_cast-start
-overflow_cast-start c =
-    omega (arith, c.type_inv.edges (c.loop-next.next - 1))
-
-pub offset_bounds-table-start : goal.offset_bounds-table-start
-offset_bounds-table-start c =
-    omega (arith, below-take edge_numbers c.args.edges.now c.requires.edges_value.0 (c.loop-next.next - 1) (omega arith))
 
 pub bounds-table-start : goal.bounds-table-start
 bounds-table-start c =
@@ -35,10 +23,6 @@ bounds-table-start c =
 pub put_in-requires : goal.put_in-requires
 put_in-requires c =
     (search rules, omega (arith, below-take edge_numbers c.args.edges.now c.requires.edges_value.0 (c.loop-next.next - 1) (omega arith)))
-
-pub overflow_cast-next-in-loop-next : goal.overflow_cast-next-in-loop-next
-overflow_cast-next-in-loop-next c =
-    omega (arith, c.type_inv.nexts (c.loop-next.next - 1))
 
 pub loop-next-smaller : goal.loop-next-smaller
 loop-next-smaller c =

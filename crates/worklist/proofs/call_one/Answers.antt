@@ -1,6 +1,6 @@
 -- `call_one` meets its contract: the start is put in where the edge ends at the node and the table passes.
 use Rattle.bits.specs.Word.{overlaps}
-use Rattle.worklist.proofs.CalledIn.{one_in, one_out, ends_elsewhere, start_fails}
+use Rattle.worklist.proofs.CalledIn.{one_in}
 use Rattle.simulation.specs.Sets.{Set}
 use lib.ListN.{get_or}
 use mathlib.Core.Path.{sym, ◌∙◌}
@@ -17,15 +17,3 @@ returns-then-meet c =
     let P = test (goal.at.returns-then-meet c).Start in
     let put = c.put_in in
     (put.ensures.0, one_in a.edge a.node P a.waiting.now put.new.waiting c.if-edge-node.true (sym c.meet.ensures ∙ c.if-meet.true) put.ensures.1)
-
-pub returns-else-meet : goal.returns-else-meet
-returns-else-meet c =
-    let a = c.args in
-    let P = test (goal.at.returns-else-meet c).Start in
-    (c.requires.0, one_out a.edge a.node P a.waiting.now (start_fails a.edge a.node P a.waiting.now (sym c.meet.ensures ∙ c.if-meet.false)))
-
-pub returns-else-edge-node : goal.returns-else-edge-node
-returns-else-edge-node c =
-    let a = c.args in
-    let P = test (goal.at.returns-else-edge-node c).Start in
-    (c.requires.0, one_out a.edge a.node P a.waiting.now (ends_elsewhere a.edge a.node P a.waiting.now c.if-edge-node.false))
