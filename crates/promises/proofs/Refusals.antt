@@ -1,7 +1,7 @@
 -- A refusal names a rule: its number is no 0, and so is the verdict that it tells.
 use Prim.Native.Nat.{ℕ}
 use native.Mathlib.Omega.{arith}
-use mathlib.Core.Path.{◌≡◌, sym, ◌∙◌}
+use mathlib.Core.Path.{◌≡◌, ◌∙◌}
 use Rattle.promises.specs.declared.Refusal.{Refusal}
 use Rattle.promises.specs.declared.Refusal.TheVariants as R
 use Rattle.promises.specs.Answers.{number}
