@@ -6,9 +6,9 @@ ghost use Rattle.simulation.specs.Sets.{all_below};
 ghost use Rattle.session.specs.Limits.{max_edges, max_states};
 ghost use Rattle.session.specs.Layout.{below};
 ghost use Rattle.promises.specs.Answers.{first_broken};
-ghost use Rattle.promises.specs.Rules.{given, precedes, load_rules, verdict};
+ghost use Rattle.promises.specs.Rules.{given_by, precedes, load_rules, verdict};
 
-use promises::Refusal;
+use promises::{Lists, Refusal};
 use reports::too_short;
 
 // Rule 4: no state, too many, or one given in part, such as an inverted state that has no mask.
@@ -63,38 +63,30 @@ pub fn order_wrong(starts: &[u32], ends: &[u32]) -> bool
 
 // The first rule that a load breaks, if it breaks one.
 #[tactic(auto, unfolding(promises::specs::Rules::verdict))]
-pub fn load_rule(
-    memory: usize,
-    room: usize,
-    masks: &[u16],
-    values: &[u16],
-    links: &[u32],
-    inverted: u32,
-    samples: &[u16],
-    starts: &[u32],
-    ends: &[u32],
-) -> Result<(), Refusal>
-    ensures { first_broken result ≡ verdict (load_rules memory room (given masks.now values.now links.now inverted samples.now starts.now ends.now)) }
+pub fn load_rule(memory: usize, room: usize, lists: &Lists) -> Result<(), Refusal>
+    ensures { first_broken result ≡ verdict (load_rules memory room (given_by lists.now)) }
 {
+    let states = lists.masks.len();
+    let nodes = lists.samples.len();
     if too_short(memory, room) {
         return Err(Refusal::MemoryShort);
     }
-    if states_wrong(masks.len(), values.len(), links.len(), inverted) {
+    if states_wrong(states, lists.values.len(), lists.links.len(), lists.inverted) {
         return Err(Refusal::StatesWrong);
     }
-    if links_wrong(links, masks.len()) {
+    if links_wrong(lists.links, states) {
         return Err(Refusal::LinkWrong);
     }
-    if session::MAX_NODES < samples.len() {
+    if session::MAX_NODES < nodes {
         return Err(Refusal::NodesWrong);
     }
-    if edges_wrong(starts.len(), ends.len()) {
+    if edges_wrong(lists.starts.len(), lists.ends.len()) {
         return Err(Refusal::EdgesWrong);
     }
-    if nodes_wrong(starts, ends, samples.len() as u32) {
+    if nodes_wrong(lists.starts, lists.ends, nodes as u32) {
         return Err(Refusal::EdgeNodeWrong);
     }
-    if order_wrong(starts, ends) {
+    if order_wrong(lists.starts, lists.ends) {
         return Err(Refusal::EdgesUnordered);
     }
     Ok(())

@@ -4,6 +4,7 @@ use Rattle.simulation.specs.Sets.{all_below}
 use Rattle.session.specs.Limits.{max_states, max_nodes, max_edges, max_changes, fixed_size}
 use Rattle.session.specs.Trigger.{Trigger, Graph, states, nodes, edge, with_edge, without_edge}
 use Rattle.session.specs.Layout.{numbered, below, trigger_of, graph_of, in_layout}
+use Rattle.promises.specs.declared.Lists.{Lists}
 
 pub record Rule : Type 0 where
   pub number : ℕ
@@ -30,6 +31,9 @@ pub record Given : Type 0 where
 abbrev pub given : List ℕ → List ℕ → List ℕ → ℕ → List ℕ → List ℕ → List ℕ → Given
 given masks values links inverted samples starts ends =
     record { masks = masks; values = values; links = links; inverted = inverted; samples = samples; starts = starts; ends = ends }
+
+abbrev pub given_by : Lists → Given
+given_by x = given x.masks.now x.values.now x.links.now x.inverted x.samples.now x.starts.now x.ends.now
 
 abbrev pub given_trigger : Given → Trigger
 given_trigger x = record { masks = x.masks; values = x.values; links = x.links; inverted = x.inverted }

@@ -43,6 +43,18 @@ impl fmt::Display for Refusal {
 
 impl Error for Refusal {}
 
+// What a load is given: a list for each field, and the set of inverted states. The fields stand in lists of their own, as a caller in C has them.
+#[derive(Clone, Copy, Debug)]
+pub struct Lists<'a> {
+    pub masks: &'a [u16],
+    pub values: &'a [u16],
+    pub links: &'a [u32],
+    pub inverted: u32,
+    pub samples: &'a [u16],
+    pub starts: &'a [u32],
+    pub ends: &'a [u32],
+}
+
 // Whether every state that is reached from State One stands at some node.
 #[derive(Clone, Copy, Debug, PartialEq, Eq)]
 pub enum Firing {
