@@ -48,7 +48,7 @@ pub fn ceased_pairs(session: &[u32], table: &[u32]) -> u32
     let states = session[0];
     let nodes = session[1] as usize;
     let mut gone = [0u32; session::MAX_NODES];
-    sections::copy_words(&mut gone, marks_of(session));
+    gone.copy_from_slice(marks_of(session));
     take_away(&mut gone, table);
     pairs_in(&gone, states, nodes)
 }
@@ -66,9 +66,9 @@ pub fn delete_edit(session: &mut [u32], start: u32, end: u32, before: &mut [u32]
             calm: true,
         };
     }
-    sections::copy_words(before, marks_of(session));
+    before.copy_from_slice(marks_of(session));
     let mut table = [0u32; session::MAX_NODES];
-    sections::copy_words(&mut table, before);
+    table.copy_from_slice(before);
     cease(session, start, &mut table);
     let trials = ceased_pairs(session, &table);
     store_marks(session, &table);

@@ -64,7 +64,7 @@ pub fn insert_edit(session: &mut [u32], start: u32, end: u32, before: &mut [u32]
             calm: true,
         };
     }
-    sections::copy_words(before, marks_of(session));
+    before.copy_from_slice(marks_of(session));
     let mut table = [0u32; session::MAX_NODES];
     let trials = try_out(session, start, seeds, &mut table);
     put_together(&mut table, marks_of(session));

@@ -14,7 +14,7 @@ use Rattle.editing.specs.Steps.{Ceased}
 use Rattle.editing.proofs.Moved.{saved_calm, saved-before}
 use Rattle.deletion.proofs.Deleted.{deleted_layout, deleted_start, deleted_same, ceased-inside, deleted_stored}
 use Rattle.deletion.proofs.delete_edit.Goals as goal
-use Rattle.deletion.proofs.delete_edit.Goals.{After-cease, After-copy_words, After-remove_edge}
+use Rattle.deletion.proofs.delete_edit.Goals.{After-cease, After-copy_from_slice, After-remove_edge}
 
 -- the session without the edge
 moved : (c : After-remove_edge) → (let xs = c.args.session.now in
@@ -28,8 +28,8 @@ inside : (c : After-remove_edge) → c.args.start < nodes (graph_of c.remove_edg
 inside c = deleted_start c.args.session.now c.args.start c.args.end c.requires.0 c.requires.1 _ (moved c)
 
 -- the marks that were
-saved : (c : After-copy_words) → c.copy_words.new.place ≡ take max_nodes (drop marks_at c.remove_edge.new.session)
-saved c = c.copy_words.ensures ∙ c.marks_of.ensures
+saved : (c : After-copy_from_slice) → c.copy_from_slice.new.self ≡ take max_nodes (drop marks_at c.remove_edge.new.session)
+saved c = c.copy_from_slice.ensures.after ∙ c.marks_of.ensures
 
 -- what refinement leaves
 left : (c : After-cease) → Ceased c.remove_edge.new.session c.args.start c.cease.new.table
@@ -57,13 +57,13 @@ pub marks_of-requires : goal.marks_of-requires
 marks_of-requires c =
     layout (goal.at.marks_of-requires c).After-remove_edge
 
-pub copy_words-requires : goal.copy_words-requires
-copy_words-requires c =
-    ap length c.marks_of.ensures ∙ marks-long c.remove_edge.new.session (layout (goal.at.copy_words-requires c).After-remove_edge) ∙ sym c.requires.2
+pub copy_from_slice-requires : goal.copy_from_slice-requires
+copy_from_slice-requires c =
+    c.requires.2 ∙ sym (ap length c.marks_of.ensures ∙ marks-long c.remove_edge.new.session (layout (goal.at.copy_from_slice-requires c).After-remove_edge))
 
 pub cease-requires : goal.cease-requires
 cease-requires c =
-    (layout (goal.at.cease-requires c).After-remove_edge, inside (goal.at.cease-requires c).After-remove_edge, c.copy_words-2.ensures ∙ saved (goal.at.cease-requires c).After-copy_words)
+    (layout (goal.at.cease-requires c).After-remove_edge, inside (goal.at.cease-requires c).After-remove_edge, c.copy_from_slice-2.ensures.after ∙ saved (goal.at.cease-requires c).After-copy_from_slice)
 
 pub ceased_pairs-trials-requires : goal.ceased_pairs-trials-requires
 ceased_pairs-trials-requires c =
@@ -82,5 +82,5 @@ returns c =
     let a = c.args in (
       deleted_stored a.session.now a.start a.end c.requires.0 c.requires.1 _ (moved (goal.at.returns c).After-remove_edge) _ (left (goal.at.returns c).After-cease)
           _ c.store_marks.new.session c.ceased_pairs-trials.ensures c.store_marks.ensures,
-      saved-before deletion a.session.now a.start a.end c.requires.0 c.requires.1 _ (moved (goal.at.returns c).After-remove_edge) _ _ (saved (goal.at.returns c).After-copy_words),
+      saved-before deletion a.session.now a.start a.end c.requires.0 c.requires.1 _ (moved (goal.at.returns c).After-remove_edge) _ _ (saved (goal.at.returns c).After-copy_from_slice),
     )

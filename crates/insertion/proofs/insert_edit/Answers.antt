@@ -71,9 +71,9 @@ pub marks_of-requires : goal.marks_of-requires
 marks_of-requires c =
     layout (goal.at.marks_of-requires c).After-insert_edge
 
-pub copy_words-requires : goal.copy_words-requires
-copy_words-requires c =
-    ap length c.marks_of.ensures ∙ marks-long c.insert_edge.new.session (layout (goal.at.copy_words-requires c).After-insert_edge) ∙ sym c.requires.2
+pub copy_from_slice-requires : goal.copy_from_slice-requires
+copy_from_slice-requires c =
+    c.requires.2 ∙ sym (ap length c.marks_of.ensures ∙ marks-long c.insert_edge.new.session (layout (goal.at.copy_from_slice-requires c).After-insert_edge))
 
 pub try_out-trials-requires : goal.try_out-trials-requires
 try_out-trials-requires c =
@@ -109,5 +109,5 @@ returns c =
       inserted_stored a.session.now a.start a.end c.requires.0 c.requires.1 c.insert_edge.new.session c.insert_edge.ensures
           (begun (goal.at.returns c).After-try_out-trials).trials c.try_out-trials.new.table c.put_together.new.table (begun (goal.at.returns c).After-try_out-trials).tried (begun (goal.at.returns c).After-try_out-trials).left (both (goal.at.returns c).After-put_together) c.try_out-trials.result (begun (goal.at.returns c).After-try_out-trials).counted _ c.store_marks.ensures,
       saved-before insertion a.session.now a.start a.end c.requires.0 c.requires.1 c.insert_edge.new.session c.insert_edge.ensures _ _
-          (c.copy_words.ensures ∙ c.marks_of.ensures),
+          (c.copy_from_slice.ensures.after ∙ c.marks_of.ensures),
     )
