@@ -65,7 +65,7 @@ pub fn write_sections(
         starts,
         ends,
     );
-    sections::clear(&mut session[session::MARKS_AT..session::FIXED_SIZE]);
+    session[session::MARKS_AT..session::FIXED_SIZE].fill(0);
 }
 
 // Loads a trigger and a graph: a list for each field, and the set of inverted states.

@@ -1,3 +1,4 @@
--- The laws by which the ends of the edges are tested, and marks by admission.
+-- The laws of tests folded over a list, of the ends of the edges, and of marks by admission.
+pub mod Folds
 pub mod Named
 pub mod Unadmitted

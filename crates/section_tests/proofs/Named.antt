@@ -1,12 +1,15 @@
 -- Ascending edges that name nodes: the last start is the greatest, so that the ends are left to be tested.
 use Prim.Native.Nat.{ℕ, ◌-◌, ◌/◌, ◌%◌, ◌<◌, ◌≤◌}
 use native.Mathlib.Omega.{arith}
-use mathlib.Core.Path.{◌≡◌, sym, ap, ◌∙◌}
+use mathlib.Core.Path.{◌≡◌, refl, sym, ap, ◌∙◌}
 use mathlib.Core.Logic.{⊎_elim}
 use mathlib.Core.Bool.{Bool, true, false, ◌&&◌}
-use mathlib.Core.List.{List}
+use mathlib.Core.List.{List, [], ◌∷◌}
 use lib.Dec.{ltb, eqb}
 use lib.ListN.{length, get_or}
+use Rattle.std.specs.Prelude.{Some, None}
+use Rattle.std.specs.List.{slice_get}
+use Rattle.std.proofs.lemmas.Option.{slice_get-get_or, slice_get_within, get_or_from_slice_get}
 use borrow.Author.Tests.{lt-ltb, le-ltb, eqb-true, eqb-false}
 use Rattle.simulation.specs.Sets.{Set, all_below}
 use Rattle.simulation.specs.Ordered.{ascends}
@@ -14,6 +17,14 @@ use Rattle.simulation.proofs.Sets.{clash, split, refuted, and_l, all_make, all_t
 use Rattle.simulation.proofs.Ordered.{rising-take, ascending}
 use Rattle.session.specs.Tests.{all_named}
 use Rattle.session.specs.Limits.{max_nodes}
+
+-- the last entry of a list, or none
+pub no_last : (es : List ℕ) → slice_get es (length es - 1) ≡ None → length es ≡ 0
+no_last [] h = refl
+no_last (x ∷ xs) h = let e = slice_get-get_or (x ∷ xs) (length (x ∷ xs) - 1) 0 (omega arith) in absurd (cc (h, e))
+
+pub last_here : (es : List ℕ) (x : ℕ) → slice_get es (length es - 1) ≡ Some x → (length es - 1 < length es) × (get_or es (length es - 1) 0 ≡ x)
+last_here es x h = (slice_get_within es (length es - 1) x h, get_or_from_slice_get es (length es - 1) x 0 h)
 
 module _ (nodes : ℕ) (es : List ℕ) where
   abbrev starting : Set

@@ -11,7 +11,7 @@ ghost use Rattle.simulation.specs.Sets.{all_below, any_below};
 ghost use Rattle.session.specs.Limits.{max_nodes, word_bits};
 ghost use Rattle.session.specs.Trigger.{matches, accepts};
 
-use bits::{ALL_HALF, HALF_BITS, chosen_half};
+use bits::HALF_BITS;
 use pair_tables::turned_states;
 use sections::narrow;
 
@@ -19,15 +19,11 @@ use sections::narrow;
 pub fn all_below(words: &[u32], limit: u32) -> bool
     ensures { result ≡ below limit words.now }
 {
-    let mut faults: u32 = 0;
-    let mut k = 0;
-    while k < words.len() {
-        if limit <= words[k] {
-            faults = 1;
-        }
-        k += 1;
+    let mut all = true;
+    for word in words {
+        all &= *word < limit;
     }
-    faults == 0
+    all
 }
 
 // Whether each word is zero: their union tells.
@@ -59,15 +55,11 @@ pub fn section_fits(place: &[u32], used: usize, k: u32) -> bool
 pub fn all_ascend(edges: &[u32]) -> bool
     ensures { result ≡ ascends edges.now }
 {
-    let mut faults: u32 = 0;
-    let mut k = 1;
-    while k < edges.len() {
-        if edges[k] <= edges[k - 1] {
-            faults = 1;
-        }
-        k += 1;
+    let mut all = true;
+    for k in 1..edges.len() {
+        all &= edges[k - 1] < edges[k];
     }
-    faults == 0
+    all
 }
 
 // Whether each edge of an ascending list joins two of the nodes: the last start is the greatest, and the ends are folded.
@@ -75,50 +67,49 @@ pub fn all_named(edges: &[u32], nodes: u32) -> bool
     requires { ascends edges.now ≡ true }
     ensures { result ≡ all_named nodes edges.now }
 {
-    let count = edges.len();
-    if count == 0 {
+    let Some(last) = edges.last() else {
         return true;
-    }
-    if nodes <= edges[count - 1] / session::EDGE_BASE {
+    };
+    if nodes <= *last / session::EDGE_BASE {
         return false;
     }
-    let last = nodes - 1;
-    let mut faults: u32 = 0;
-    let mut k = 0;
-    while k < edges.len() {
-        if last < edges[k] % session::EDGE_BASE {
-            faults = 1;
-        }
-        k += 1;
-    }
-    faults == 0
-}
-
-// The marks at nodes whose sample does not agree with the mask and the value, or, with a turn of every bit, does. The value lies inside the mask.
-pub fn strays_turned(samples: &[u16], marks: &[u16], turn: u16, mask: u16, value: u16) -> u16
-    requires samples_len { (length samples.now ≡ length marks.now) × (mask < 2 ^ word_bits) }
-    requires mask_value { bit_and value mask ≡ value }
-    ensures { (b : Bool) → turn ≡ cond b (2 ^ half_bits - 1) 0 → members result ≡ (λ u. any_below (length marks.now) (λ v. members (get_or marks.now v 0) u && not (matches word_bits b mask value (get_or samples.now v 0)))) }
-{
-    let mut all: u16 = 0;
-    let mut v = 0;
-    while v < marks.len() {
-        all = all | chosen_half(marks[v], samples[v] & mask != value, turn);
-        v += 1;
+    let mut all = true;
+    for edge in edges {
+        all &= *edge % session::EDGE_BASE < nodes;
     }
     all
 }
 
-// The marks at nodes that a state, turned round or not, does not admit. The turn is known at each call, so that neither loop spends an operation on it.
+// The marks at nodes whose sample does not agree with the mask and the value, or, turned round, does. The value lies inside the mask. Whether it is turned is
+// no value but a part of the loop, so that neither loop spends an operation on it.
+pub fn strays_turned<const TURNED: bool>(
+    samples: &[u16],
+    marks: &[u16],
+    mask: u16,
+    value: u16,
+) -> u16
+    requires samples_len { (length samples.now ≡ length marks.now) × (mask < 2 ^ word_bits) }
+    requires mask_value { bit_and value mask ≡ value }
+    ensures { members result ≡ (λ u. any_below (length marks.now) (λ v. members (get_or marks.now v 0) u && not (matches word_bits TURNED mask value (get_or samples.now v 0)))) }
+{
+    let mut all = 0;
+    for (v, mark) in marks.iter().enumerate() {
+        let agrees = samples[v] & mask == value;
+        all |= bits::picked(*mark, agrees == TURNED);
+    }
+    all
+}
+
+// The marks at nodes that a state, turned round or not, does not admit.
 pub fn strays(samples: &[u16], marks: &[u16], turned: bool, mask: u16, value: u16) -> u16
     requires samples_len { (length samples.now ≡ length marks.now) × (mask < 2 ^ word_bits) }
     requires mask_value { bit_and value mask ≡ value }
     ensures { members result ≡ (λ u. any_below (length marks.now) (λ v. members (get_or marks.now v 0) u && not (matches word_bits turned mask value (get_or samples.now v 0)))) }
 {
     if turned {
-        strays_turned(samples, marks, ALL_HALF, mask, value)
+        strays_turned::<true>(samples, marks, mask, value)
     } else {
-        strays_turned(samples, marks, 0, mask, value)
+        strays_turned::<false>(samples, marks, mask, value)
     }
 }
 
@@ -136,21 +127,16 @@ pub fn all_sparse(
     requires by_index { (u : ℕ) → u < half_bits → members used u ≡ any_below (length marks.now) (λ v. members (get_or marks.now v 0) u) }
     ensures { result ≡ all_below (length masks.now) (λ u. sparse samples.now marks.now (matches word_bits (members turned u) (get_or masks.now u 0) (get_or values.now u 0)) u) }
 {
-    let mut faults: u32 = 0;
-    let mut u = 0;
-    while u < masks.len() {
+    let mut all = true;
+    for (u, mask) in masks.iter().enumerate() {
         if bits::has(used, u as u32) {
-            let mask = masks[u];
-            let wanted = values[u] & mask;
+            let wanted = values[u] & *mask;
             let over = bits::has(turned, u as u32);
-            let stray = strays(samples, marks, over, mask as u16, wanted as u16);
-            if bits::has(stray as u32, u as u32) {
-                faults = 1;
-            }
+            let stray = strays(samples, marks, over, *mask as u16, wanted as u16);
+            all &= !bits::has(u32::from(stray), u as u32);
         }
-        u += 1;
     }
-    faults == 0
+    all
 }
 
 // The same of the states from `first` on, half as many as a word has bits at most, whose masks and values these are: their marks are half of each

@@ -1,13 +1,14 @@
 -- The counts and the inverted states are stored, the five sections filled with the lists, one after the other, and the marks cleared.
 use native.Mathlib.Omega.{arith}
 use Prim.Native.Nat.{◌≤◌}
-use mathlib.Core.Path.{◌≡◌}
+use mathlib.Core.Path.{◌≡◌, ◌∙◌}
 use lib.ListN.{length, length-set}
 use borrow.Rule.Slice.PartMut.{same_len_mid}
 use Rattle.session.specs.Limits.{fixed_size, max_changes, max_edges, max_nodes, max_states}
 use Rattle.promises.specs.Rules.{Given, given}
 use Rattle.promises.proofs.Loads.{load-counts, load-edges}
 use Rattle.loading.proofs.Sections.{sections_written}
+use Rattle.sections.proofs.Fills.{section_zeros}
 use Rattle.loading.proofs.write_sections.Goals as goal
 use Rattle.loading.proofs.write_sections.Goals.{Start}
 
@@ -102,14 +103,14 @@ fill_edges-requires c =
       starts_in_bounds = omega (arith, bounds (goal.at.fill_edges-requires c).Start);
     }
 
-pub slice_bounds-clear-end : goal.slice_bounds-clear-end
-slice_bounds-clear-end c =
+pub slice_bounds-fill-end : goal.slice_bounds-fill-end
+slice_bounds-fill-end c =
     let p = c.fill_halves.auto.place in
     let q = c.fill_halves-2.auto.place in
     let r = c.fill_words.auto.place in
     let t = c.fill_halves-3.auto.place in
     let u = c.fill_edges.auto.place in
-    simp (same_len_mid, length-set) (omega (arith, bounds (goal.at.slice_bounds-clear-end c).Start))
+    simp (same_len_mid, length-set) (omega (arith, bounds (goal.at.slice_bounds-fill-end c).Start))
 
 pub shape_of-session : goal.shape_of-session
 shape_of-session c =
@@ -118,11 +119,11 @@ shape_of-session c =
     let r = c.fill_words.auto.place in
     let t = c.fill_halves-3.auto.place in
     let u = c.fill_edges.auto.place in
-    let v = c.clear.auto.place in
+    let v = c.fill.auto.self in
     simp (same_len_mid, length-set)
 
 pub returns : goal.returns
 returns c =
     sections_written (loaded (goal.at.returns c).Start) c.args.session.now (bounds (goal.at.returns c).Start).0
-    c.fill_halves.new.place c.fill_halves-2.new.place c.fill_words.new.place c.fill_halves-3.new.place c.fill_edges.new.place c.clear.new.place
-    c.fill_halves.ensures c.fill_halves-2.ensures c.fill_words.ensures c.fill_halves-3.ensures c.fill_edges.ensures c.clear.ensures
+    c.fill_halves.new.place c.fill_halves-2.new.place c.fill_words.new.place c.fill_halves-3.new.place c.fill_edges.new.place c.fill.new.self
+    c.fill_halves.ensures c.fill_halves-2.ensures c.fill_words.ensures c.fill_halves-3.ensures c.fill_edges.ensures (c.fill.ensures.after (λ y e. e) ∙ section_zeros _)

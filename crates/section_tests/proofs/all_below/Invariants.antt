@@ -1,14 +1,10 @@
--- `all_below` meets its contract: a fault is noted where a word reaches the limit.
-use Prim.Native.Nat.{◌-◌}
+-- `all_below` meets its contract: the words so far are below the limit, or not all.
+use mathlib.Core.Path.{◌≡◌}
 use lib.Dec.{ltb}
-use lib.ListN.{length, get_or}
-use Rattle.simulation.proofs.Folds.{Folded}
+use lib.ListN.{get_or}
+use Rattle.simulation.specs.Sets.{all_below}
 use Rattle.section_tests.proofs.all_below.Given as goal
 
-abbrev pub invariant-loop-k : goal.invariant-loop-k
-invariant-loop-k l =
-    Folded (λ j. ltb (get_or l.words j 0) l.limit) (length l.words) l.faults l.k
-
-abbrev pub decreases-loop-k : goal.decreases-loop-k
-decreases-loop-k l =
-    length l.words - l.k
+abbrev pub invariant-loop-word : goal.invariant-loop-word
+invariant-loop-word l =
+    l.all ≡ all_below l.word-index (λ j. ltb (get_or l.words j 0) l.limit)

@@ -1,43 +1,40 @@
-use Prim.Native.Nat.{◌-◌, ◌%◌}
-use Rattle.simulation.proofs.Folds.{fold_start, fold_pass, fold_fault, fold_end}
-use Rattle.section_tests.proofs.Named.{ending, none_named, start_fails, ends_decide}
-use Rattle.simulation.specs.Sets.{Set}
-use borrow.Author.Tests.{lt-ltb, le-ltb}
-use lib.ListN.{length, get_or}
-use mathlib.Core.Path.{◌∙◌}
+use Prim.Native.Nat.{◌-◌}
 use native.Mathlib.Omega.{arith}
-use Rattle.session.specs.Limits.{max_nodes}
+use mathlib.Core.Path.{◌≡◌, refl, sym, ◌∙◌}
+use lib.ListN.{length}
+use Rattle.std.specs.Prelude.{Some}
+use Rattle.std.specs.List.{slice_get}
+use Rattle.section_tests.proofs.Folds.{test_none, test_more, test_all}
+use Rattle.section_tests.proofs.Named.{ending, none_named, start_fails, ends_decide, no_last, last_here}
 use Rattle.section_tests.proofs.all_named.Goals as goal
-use Rattle.section_tests.proofs.all_named.Goals.{then-last-edges, else-last-edges}
+use Rattle.section_tests.proofs.all_named.Goals.{In-Some}
 
-pub returns-then-count-eq0 : goal.returns-then-count-eq0
-returns-then-count-eq0 c =
-    let a = c.args in none_named a.nodes a.edges.now c.if-count-eq0.true
+-- the last edge
+read : (c : In-Some) → slice_get c.args.edges.now (length c.args.edges.now - 1) ≡ Some c.in-Some.last.now
+read c = sym (rw c.in-Some.is at c.last.ensures.value)
 
-pub returns-then-nodes-edges : goal.returns-then-nodes-edges
-returns-then-nodes-edges c =
-    let a = c.args in start_fails a.nodes a.edges.now (length a.edges.now - 1) (omega arith) c.if-nodes-edges.true
+pub returns-in_default : goal.returns-in_default
+returns-in_default c =
+    let a = c.args in none_named a.nodes a.edges.now (no_last a.edges.now (sym (rw c.in_default.is at c.last.ensures.value)))
 
-pub loop-k-init : goal.loop-k-init
-loop-k-init c =
-    let a = c.args in fold_start (ending a.nodes a.edges.now) (length a.edges.now)
-
-pub loop-k-preserved : goal.loop-k-preserved
-loop-k-preserved c =
+pub returns-then-nodes-last : goal.returns-then-nodes-last
+returns-then-nodes-last c =
     let a = c.args in
-    let l = c.loop-k in
-    let n = length a.edges.now in
-    let e = get_or a.edges.now l.k 0 in
-    let E : Set = ending a.nodes a.edges.now in
-    elim c.if-last-edges.branch [
-      | then-last-edges w ↦ rw w.faults-is (fold_fault E n l.k (omega arith) (le-ltb (e % max_nodes) a.nodes (omega (arith, w.if-last-edges.true))))
-      | else-last-edges w ↦
-          rw w.faults-is (fold_pass E n l.faults l.k l.invariant (omega arith) (lt-ltb (e % max_nodes) a.nodes (omega (arith, w.if-last-edges.false))))
-    ]
+    let r = last_here a.edges.now c.in-Some.last.now (read (goal.at.returns-then-nodes-last c).In-Some) in
+    start_fails a.nodes a.edges.now (length a.edges.now - 1) r.0 (rw r.1 c.if-nodes-last.true)
+
+pub loop-edge-init : goal.loop-edge-init
+loop-edge-init c =
+    test_none (ending c.args.nodes c.args.edges.now)
+
+pub loop-edge-preserved : goal.loop-edge-preserved
+loop-edge-preserved c =
+    let l = c.loop-edge in
+    test_more (ending c.args.nodes c.args.edges.now) l.edge-index l.all _ l.invariant refl
 
 pub returns : goal.returns
 returns c =
     let a = c.args in
-    let l = c.loop-k in
-    fold_end (ending a.nodes a.edges.now) (length a.edges.now) l.faults l.k l.invariant (omega arith)
-    ∙ ends_decide a.nodes a.edges.now c.requires (omega (arith, c.if-nodes-edges.false))
+    let l = c.loop-edge in
+    test_all (ending a.nodes a.edges.now) (length a.edges.now) l.edge-index l.all l.invariant (omega arith)
+    ∙ ends_decide a.nodes a.edges.now c.requires (rw (last_here a.edges.now c.in-Some.last.now (read (goal.at.returns c).In-Some)).1 (omega arith))

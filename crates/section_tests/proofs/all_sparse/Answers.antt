@@ -1,7 +1,7 @@
 use Prim.Native.Nat.{ℕ, ◌^◌, ◌<◌}
 use native.Mathlib.Omega.{arith}
 use mathlib.Core.Path.{◌≡◌, sym, ap, ◌∙◌}
-use mathlib.Core.Bool.{Bool, not}
+use mathlib.Core.Bool.{Bool, true, not, and-true}
 use mathlib.Core.List.{List}
 use lib.Bits.{bit_and, and_le_r}
 use lib.ListN.{length, get_or}
@@ -15,10 +15,10 @@ use Rattle.session.specs.Tests.{sparse}
 use Rattle.session.proofs.Admission.{matches-part}
 use Rattle.session.proofs.Tables.{below-take}
 use Rattle.section_tests.proofs.Unadmitted.{stray, sparse-stray, sparse-same, sparse-none}
-use Rattle.simulation.proofs.Folds.{fold_start, fold_pass, fold_fault, fold_end}
+use Rattle.section_tests.proofs.Folds.{test_none, test_more, test_all}
 use Rattle.section_tests.proofs.all_sparse.Invariants.{admitted}
 use Rattle.section_tests.proofs.all_sparse.Goals as goal
-use Rattle.section_tests.proofs.all_sparse.Goals.{In-loop-u, then-has+then-has-2, then-has+else-has-2, else-has}
+use Rattle.section_tests.proofs.all_sparse.Goals.{In-loop-u, then-has, else-has}
 
 -- what the marks that are found say, with the part of the value inside the mask
 tested : (samples marks : List ℕ) (turned : ℕ) (over : Bool) (mask value all u : ℕ) → mask < 2 ^ word_bits → over ≡ members turned u
@@ -38,7 +38,7 @@ small c = below-take (2 ^ word_bits) c.args.masks.now c.requires.masks_value c.l
 pub loop-u-init : goal.loop-u-init
 loop-u-init c =
     let a = c.args in
-    fold_start (admitted a.masks.now a.values.now a.turned a.samples.now a.marks.now) (length a.masks.now)
+    test_none (admitted a.masks.now a.values.now a.turned a.samples.now a.marks.now)
 
 pub overflow_cast-mask : goal.overflow_cast-mask
 overflow_cast-mask c =
@@ -61,30 +61,25 @@ loop-u-preserved c =
     let l = c.loop-u in
     let a = c.args in
     let P = admitted a.masks.now a.values.now a.turned a.samples.now a.marks.now in
-    let n = length a.masks.now in
     let mask = get_or a.masks.now l.u 0 in
     let value = get_or a.values.now l.u 0 in
     let word = small (goal.at.loop-u-preserved c).In-loop-u in
     elim c.if-has.branch [
-      | then-has+then-has-2 w ↦
-          rw w.faults-is
-          (fold_fault P n l.u (omega arith)
+      | then-has w ↦
+          rw w.all-is
+          (test_more P l.u l.all _ l.invariant
+          (sym
           (tested a.samples.now a.marks.now a.turned w.has-over.result mask value w.strays-stray.result l.u word w.has-over.ensures w.strays-stray.ensures
-          ∙ ap not (sym w.has-then-has.ensures ∙ w.if-has-2.true)))
-      | then-has+else-has-2 w ↦
-          rw w.faults-is
-          (fold_pass P n l.faults l.u l.invariant (omega arith)
-          (tested a.samples.now a.marks.now a.turned w.has-over.result mask value w.strays-stray.result l.u word w.has-over.ensures w.strays-stray.ensures
-          ∙ ap not (sym w.has-then-has.ensures ∙ w.if-has-2.false)))
+          ∙ ap not (sym (w.has-then-has.ensures ∙ ap (λ (x : ℕ). members x l.u) w.from.ensures)))))
       | else-has w ↦
-          rw w.faults-is
-          (fold_pass P n l.faults l.u l.invariant (omega arith)
-          (sparse-none a.samples.now a.marks.now (matches word_bits (members a.turned l.u) mask value) l.u (sym (c.requires.by_index l.u (omega arith)) ∙ sym c.has.ensures ∙ w.if-has.false)))
+          rw w.all-is
+          (sym (and-true l.all)
+          ∙ test_more P l.u l.all true l.invariant
+          (sym (sparse-none a.samples.now a.marks.now (matches word_bits (members a.turned l.u) mask value) l.u (sym (c.requires.by_index l.u (omega arith)) ∙ sym c.has.ensures ∙ w.if-has.false))))
     ]
 
 pub returns : goal.returns
 returns c =
     let a = c.args in
     let l = c.loop-u in
-    fold_end (admitted a.masks.now a.values.now a.turned a.samples.now a.marks.now) (length a.masks.now) l.faults l.u
-    l.invariant (omega arith)
+    test_all (admitted a.masks.now a.values.now a.turned a.samples.now a.marks.now) (length a.masks.now) l.u l.all l.invariant (omega arith)
