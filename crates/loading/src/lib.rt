@@ -5,11 +5,11 @@ ghost use Rattle.std.specs.Prelude.{◌≡◌, true, false, ℕ, length, get_or,
 ghost use Rattle.session.specs.Limits.{max_nodes, fixed_size, max_changes};
 ghost use Rattle.session.specs.Layout.{in_layout, image};
 ghost use Rattle.loading.specs.Solved.{Solved};
-ghost use Rattle.promises.specs.Rules.{given, given_trigger, given_graph, load_rules, verdict};
+ghost use Rattle.promises.specs.Rules.{given_by, given_trigger, given_graph, load_rules, verdict};
 ghost use Rattle.promises.specs.Promises.{Loaded};
 
 use load_rules::load_rule;
-use promises::Answer;
+use promises::{Answer, Lists};
 use refinement::refine_indexed;
 use reports::report;
 use session_parts::{Held, store_marks};
@@ -36,70 +36,44 @@ pub fn solve(session: &Held, table: &mut [u32]) -> u32
 }
 
 // Writes the sections of a load that breaks no rule, with no mark set.
-pub fn write_sections(
-    session: &mut [u32],
-    masks: &[u16],
-    values: &[u16],
-    links: &[u32],
-    inverted: u32,
-    samples: &[u16],
-    starts: &[u32],
-    ends: &[u32],
-)
-    requires { verdict (load_rules (length session.old) max_changes (given masks.now values.now links.now inverted samples.now starts.now ends.now)) ≡ 0 }
-    ensures { session.new ≡ image (given_trigger (given masks.now values.now links.now inverted samples.now starts.now ends.now)) (given_graph (given masks.now values.now links.now inverted samples.now starts.now ends.now)) (λ u v. false) ++ drop fixed_size session.old }
+pub fn write_sections(session: &mut [u32], lists: &Lists)
+    requires { verdict (load_rules (length session.old) max_changes (given_by lists.now)) ≡ 0 }
+    ensures { session.new ≡ image (given_trigger (given_by lists.now)) (given_graph (given_by lists.now)) (λ u v. false) ++ drop fixed_size session.old }
 {
-    session[0] = masks.len() as u32;
-    session[1] = samples.len() as u32;
-    session[2] = starts.len() as u32;
-    session[session::INVERTED_AT] = inverted;
-    sections::fill_halves(&mut session[session::MASKS_AT..session::VALUES_AT], masks);
-    sections::fill_halves(&mut session[session::VALUES_AT..session::LINKS_AT], values);
-    sections::fill_words(&mut session[session::LINKS_AT..session::SAMPLES_AT], links);
+    session[0] = lists.masks.len() as u32;
+    session[1] = lists.samples.len() as u32;
+    session[2] = lists.starts.len() as u32;
+    session[session::INVERTED_AT] = lists.inverted;
+    sections::fill_halves(
+        &mut session[session::MASKS_AT..session::VALUES_AT],
+        lists.masks,
+    );
+    sections::fill_halves(
+        &mut session[session::VALUES_AT..session::LINKS_AT],
+        lists.values,
+    );
+    sections::fill_words(
+        &mut session[session::LINKS_AT..session::SAMPLES_AT],
+        lists.links,
+    );
     sections::fill_halves(
         &mut session[session::SAMPLES_AT..session::EDGES_AT],
-        samples,
+        lists.samples,
     );
     sections::fill_edges(
         &mut session[session::EDGES_AT..session::MARKS_AT],
-        starts,
-        ends,
+        lists.starts,
+        lists.ends,
     );
     session[session::MARKS_AT..session::FIXED_SIZE].fill(0);
 }
 
-// Loads a trigger and a graph: a list for each field, and the set of inverted states.
-pub fn load(
-    session: &mut [u32],
-    masks: &[u16],
-    values: &[u16],
-    links: &[u32],
-    inverted: u32,
-    samples: &[u16],
-    starts: &[u32],
-    ends: &[u32],
-    changes: &mut [i32],
-) -> Answer
-    ensures { Loaded (given masks.now values.now links.now inverted samples.now starts.now ends.now) session.old changes.old result session.new changes.new }
+// Loads a trigger and a graph.
+pub fn load(session: &mut [u32], lists: &Lists, changes: &mut [i32]) -> Answer
+    ensures { Loaded (given_by lists.now) session.old changes.old result session.new changes.new }
 {
-    let broken = load_rule(
-        session.len(),
-        changes.len(),
-        masks,
-        values,
-        links,
-        inverted,
-        samples,
-        starts,
-        ends,
-    );
-    let turned_back = broken != 0;
-    if turned_back {
-        return Answer::Refused(broken);
-    }
-    write_sections(
-        session, masks, values, links, inverted, samples, starts, ends,
-    );
+    load_rule(session.len(), changes.len(), lists)?;
+    write_sections(session, lists);
     let before = [0u32; session::MAX_NODES];
     let mut table = [0u32; session::MAX_NODES];
     let trials = solve(&Held::of(session), &mut table);

@@ -9,7 +9,7 @@ use Rattle.session.specs.Layout.{below, in_layout}
 use Rattle.session.proofs.Tables.{below_make}
 use Rattle.pair_tables.proofs.Zeros.{zeros}
 use Rattle.promises.specs.Answers.{refused}
-use Rattle.promises.specs.Rules.{Given, given, load_rules, verdict}
+use Rattle.promises.specs.Rules.{Given, given_by, load_rules, verdict}
 use Rattle.promises.proofs.Loads.{load-room, load_elsewhere}
 use Rattle.loading.proofs.Finished.{load-layout, load_inside, load-marked, load-written}
 use Rattle.session.specs.Limits.{max_changes, max_nodes, word_bits}
@@ -21,20 +21,20 @@ halves : (xs : List ℕ) → ((i : ℕ) → get_or xs i 0 < 2 ^ word_bits) → b
 halves xs h = below_make (2 ^ word_bits) xs (λ i l. h i)
 
 abbrev loaded : After-write_sections → Given
-loaded c = given c.args.masks.now c.args.values.now c.args.links.now c.args.inverted c.args.samples.now c.args.starts.now c.args.ends.now
+loaded c = given_by c.args.lists.now
 
-masks_fit : (c : After-write_sections) → below (2 ^ word_bits) c.args.masks.now ≡ true
-masks_fit c = halves c.args.masks.now (λ i. omega (arith, c.type_inv.masks i))
+masks_fit : (c : After-write_sections) → below (2 ^ word_bits) c.args.lists.now.masks.now ≡ true
+masks_fit c = halves c.args.lists.now.masks.now (λ i. omega (arith, c.type_inv.masks i))
 
-values_fit : (c : After-write_sections) → below (2 ^ word_bits) c.args.values.now ≡ true
-values_fit c = halves c.args.values.now (λ i. omega (arith, c.type_inv.values i))
+values_fit : (c : After-write_sections) → below (2 ^ word_bits) c.args.lists.now.values.now ≡ true
+values_fit c = halves c.args.lists.now.values.now (λ i. omega (arith, c.type_inv.values i))
 
-samples_fit : (c : After-write_sections) → below (2 ^ word_bits) c.args.samples.now ≡ true
-samples_fit c = halves c.args.samples.now (λ i. omega (arith, c.type_inv.samples i))
+samples_fit : (c : After-write_sections) → below (2 ^ word_bits) c.args.lists.now.samples.now ≡ true
+samples_fit c = halves c.args.lists.now.samples.now (λ i. omega (arith, c.type_inv.samples i))
 
 -- no rule is broken
 passed : (c : After-write_sections) → verdict (load_rules (length c.args.session.now) (length c.args.changes.now) (loaded c)) ≡ 0
-passed c = sym c.load_rule-broken.ensures ∙ c.if-turned_back.false
+passed c = sym (c.in_ok-load_rule.ensures {u = tt})
 
 layout : (c : After-write_sections) → in_layout c.write_sections.new.session ≡ true
 layout c =
@@ -46,9 +46,9 @@ returns-then-turned_back c =
     let a = c.args in
     record {
       words = (
-        halves a.masks.now (λ i. omega (arith, c.type_inv.masks i)),
-        halves a.values.now (λ i. omega (arith, c.type_inv.values i)),
-        halves a.samples.now (λ i. omega (arith, c.type_inv.samples i)),
+        halves a.lists.now.masks.now (λ i. omega (arith, c.type_inv.masks i)),
+        halves a.lists.now.values.now (λ i. omega (arith, c.type_inv.values i)),
+        halves a.lists.now.samples.now (λ i. omega (arith, c.type_inv.samples i)),
       );
       refuses = λ bad. record { answer = ap refused c.load_rule-broken.ensures; session = refl; room = refl };
       accepts = λ ok. absurd (c.if-turned_back.true (c.load_rule-broken.ensures ∙ ok));
@@ -58,7 +58,7 @@ pub write_sections-requires : goal.write_sections-requires
 write_sections-requires c =
     let a = c.args in
     load_elsewhere (length a.session.now) (length a.changes.now)
-    (given a.masks.now a.values.now a.links.now a.inverted a.samples.now a.starts.now a.ends.now)
+    (given_by a.lists.now)
     (sym c.load_rule-broken.ensures ∙ c.if-turned_back.false) max_changes (omega arith)
 
 pub solve-trials-requires : goal.solve-trials-requires

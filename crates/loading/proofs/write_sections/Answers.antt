@@ -5,7 +5,7 @@ use mathlib.Core.Path.{◌≡◌, ◌∙◌}
 use lib.ListN.{length, length-set}
 use borrow.Rule.Slice.PartMut.{same_len_mid}
 use Rattle.session.specs.Limits.{fixed_size, max_changes, max_edges, max_nodes, max_states}
-use Rattle.promises.specs.Rules.{Given, given}
+use Rattle.promises.specs.Rules.{Given, given_by}
 use Rattle.promises.proofs.Loads.{load-counts, load-edges}
 use Rattle.loading.proofs.Sections.{sections_written}
 use Rattle.sections.proofs.Fills.{section_zeros}
@@ -13,12 +13,12 @@ use Rattle.loading.proofs.write_sections.Goals as goal
 use Rattle.loading.proofs.write_sections.Goals.{Start}
 
 abbrev loaded : Start → Given
-loaded c = given c.args.masks.now c.args.values.now c.args.links.now c.args.inverted c.args.samples.now c.args.starts.now c.args.ends.now
+loaded c = given_by c.args.lists.now
 
 -- the memory is long enough, and the lists are short
-bounds : (c : Start) → (fixed_size ≤ length c.args.session.now) × (length c.args.masks.now ≤ max_states)
-    × (length c.args.values.now ≡ length c.args.masks.now) × (length c.args.links.now ≡ length c.args.masks.now)
-    × (length c.args.samples.now ≤ max_nodes) × (length c.args.starts.now ≤ max_edges) × (length c.args.ends.now ≡ length c.args.starts.now)
+bounds : (c : Start) → (fixed_size ≤ length c.args.session.now) × (length c.args.lists.now.masks.now ≤ max_states)
+    × (length c.args.lists.now.values.now ≡ length c.args.lists.now.masks.now) × (length c.args.lists.now.links.now ≡ length c.args.lists.now.masks.now)
+    × (length c.args.lists.now.samples.now ≤ max_nodes) × (length c.args.lists.now.starts.now ≤ max_edges) × (length c.args.lists.now.ends.now ≡ length c.args.lists.now.starts.now)
 bounds c = load-counts (length c.args.session.now) max_changes (loaded c) c.requires
 
 pub overflow_cast-session : goal.overflow_cast-session
