@@ -30,7 +30,7 @@ use Rattle.pair_tables.specs.Tables.{marked}
 use Rattle.links.specs.Links.{links_to}
 use Rattle.refinement.specs.Refining.{carried, whole, kept_of, Sound, Turned, pattern_of, tabled, Refining, Settled}
 use Rattle.edge_indexes.specs.Indexes.{edges_from, ends_at, predecessors, starts_size}
-use Rattle.worklist.specs.Waiting.{waits, waiting_words}
+use Rattle.worklist.specs.Waiting.{waits, waiting_words, lowest_waiting}
 
 -- ---- the edges from a node
 
@@ -354,6 +354,14 @@ module _ (nodes : ℕ) (links es : List ℕ) (sound : Sound nodes links es) wher
           rw (same-table c, idle) (omega arith))
           (split changed)
 
+    -- so does a look at the lowest node that waits
+    pub refining_less : (ts ws : List ℕ) (v : ℕ) (ts' ws' : List ℕ) → v ≡ lowest_waiting ws → v < nodes → Turned links es ss ts ws v ts' ws'
+        → starts_size * count (nodes * length links) (tabled nodes links es ts') + count max_nodes (waits ws')
+        < starts_size * count (nodes * length links) (tabled nodes links es ts) + count max_nodes (waits ws)
+    refining_less ts ws v ts' ws' lowest inside turned =
+        turn_less ts ws v ts' ws' turned inside
+        (rw lowest (first-at (waits ws) 0 max_nodes (omega arith) (omega (arith, lowest, sound.few_nodes))))
+
     -- ---- the whole refinement, from the table ts₀ and the nodes ws₀
 
     module _ (ts₀ ws₀ : List ℕ) where
@@ -367,9 +375,9 @@ module _ (nodes : ℕ) (links es : List ℕ) (sound : Sound nodes links es) wher
         supports = λ h. h;
       }
 
-      pub refining_turn : (ts ws : List ℕ) (v : ℕ) (ts' ws' : List ℕ) (v' : ℕ) → Refining nodes links es ss ts₀ ws₀ ts ws v → Turned links es ss ts ws v ts' ws'
+      pub refining_turn : (ts ws : List ℕ) (u v : ℕ) (ts' ws' : List ℕ) (v' : ℕ) → Refining nodes links es ss ts₀ ws₀ ts ws u → Turned links es ss ts ws v ts' ws'
           → v' ≡ first (waits ws') 0 max_nodes → Refining nodes links es ss ts₀ ws₀ ts' ws' v'
-      refining_turn ts ws v ts' ws' v' r turned lowest = record {
+      refining_turn ts ws u v ts' ws' v' r turned lowest = record {
         long = turned.table_long ∙ r.long;
         waits_long = turned.waits_long ∙ r.waits_long;
         lowest = lowest;
@@ -388,13 +396,6 @@ module _ (nodes : ℕ) (links es : List ℕ) (sound : Sound nodes links es) wher
               subst (λ (x : ℕ). members (get_or ts x 0) u ≡ true) (sym q) m)
               (λ e. ap (λ (x : ℕ). members x u) (sym (turned.others w (eqb-false w v e))) ∙ h)
               (split (eqb w v))
-
-      pub refining_less : (ts ws : List ℕ) (v : ℕ) (ts' ws' : List ℕ) → Refining nodes links es ss ts₀ ws₀ ts ws v → v < nodes → Turned links es ss ts ws v ts' ws'
-          → starts_size * count (nodes * length links) (tabled nodes links es ts') + count max_nodes (waits ws')
-          < starts_size * count (nodes * length links) (tabled nodes links es ts) + count max_nodes (waits ws)
-      refining_less ts ws v ts' ws' r inside turned =
-          turn_less ts ws v ts' ws' turned inside
-          (rw r.lowest (first-at (waits ws) 0 max_nodes (omega arith) (omega (arith, r.lowest, sound.few_nodes))))
 
       -- when no node waits, what is left is refined; a table has no mark past the nodes
       pub refining_end : (ts ws : List ℕ) (v : ℕ) → Refining nodes links es ss ts₀ ws₀ ts ws v → nodes ≤ v → ((u w : ℕ) → marked ts₀ u w ≡ true → w < nodes) → length ts₀ ≡ max_nodes

@@ -1,7 +1,7 @@
 // Refinement: tentative pairs that the settled and the tentative pairs do not support are cleared, node by node, until none is left.
 #![tactic(auto)]
 
-ghost use Rattle.std.specs.Prelude.{◌≡◌, true, not, ◌&&◌, ℕ, ◌<◌, ◌≤◌, length, get_or};
+ghost use Rattle.std.specs.Prelude.{◌≡◌, true, not, ◌&&◌, ℕ, ◌<◌, ◌≤◌, length, get_or, MatchOption, None};
 ghost use Rattle.bits.specs.Word.{members, set_bits};
 ghost use Rattle.simulation.specs.Ordered.{ascends};
 ghost use Rattle.session.specs.Limits.{max_edges, max_nodes};
@@ -9,34 +9,25 @@ ghost use Rattle.pair_tables.specs.Tables.{marked};
 ghost use Rattle.refinement.specs.Refining.{carried, kept_of, unmet_of, Sound, Turned, Refining, Settled};
 ghost use Rattle.edge_indexes.specs.Indexes.{edges_from, Started, Indexed};
 ghost use Rattle.links.specs.Links.{Callers};
-ghost use Rattle.worklist.specs.Waiting.{waiting_words};
+ghost use Rattle.worklist.specs.Waiting.{waiting_words, lowest_waiting};
 
 use edge_indexes::{STARTS, edges_at, index, index_starts};
 use links::{CALLERS, calling, index_callers, linked, linking, unlinked};
 use worklist::{call_in, lowest_in, take_out};
 
-// The links of the set without a carrier among the edges of a node. The search for one ends at the first found, and an edge is looked at once: it
-// strikes off every link that it carries.
+// The links of the set without a carrier among the edges of a node. An edge strikes off every link that it carries, and the search ends where none is
+// left.
 pub fn missing(set: u32, edges: &[u32], settled: &[u32], tentative: &[u32]) -> u32
     requires { (length settled.now ≡ max_nodes) × (length tentative.now ≡ max_nodes) }
     ensures { (o : ℕ) → members result o ≡ (members set o && not (carried edges.now settled.now tentative.now o)) }
 {
     let mut rest = set;
-    let mut k = 0;
-    'links: while rest != 0 {
-        let link = bits::lowest(rest);
-        let carrier = loop {
-            if edges.len() <= k {
-                break 'links;
-            }
-            let end = (edges[k] % session::EDGE_BASE) as usize;
-            rest = bits::difference(rest, settled[end] | tentative[end]);
-            if !bits::has(rest, link) {
-                break k;
-            }
-            k += 1;
-        };
-        k = carrier + 1;
+    for edge in edges {
+        if rest == 0 {
+            break;
+        }
+        let end = (edge % session::EDGE_BASE) as usize;
+        rest = bits::difference(rest, settled[end] | tentative[end]);
     }
     rest
 }
@@ -113,7 +104,7 @@ pub fn turn(
 pub const FEW: u32 = 2;
 
 // Refines the tentative table beside the settled one, from the nodes that wait, the lowest first. Without an index of incoming edges it stops
-// after a few looks. The lowest node that still waits.
+// after a few looks. The lowest node that still waits, if one does.
 pub fn refine(
     links: &[u32],
     edges: &[u32],
@@ -125,27 +116,29 @@ pub fn refine(
     firsts: &[u32],
     heads: &[u32],
     nexts: &[u32],
-) -> usize
+) -> Option<usize>
     requires settled_len { (length settled.now ≡ max_nodes) × (length tentative.old ≡ max_nodes) × (length waiting.old ≡ waiting_words) }
     requires sound { Sound nodes links.now edges.now × ((length firsts.now ≡ 0 → ⊥) → Started edges.now firsts.now) × ((length heads.now ≡ 0 → ⊥) → Indexed edges.now heads.now nexts.now) × ((length callers.now ≡ 0 → ⊥) → Callers links.now callers.now) }
-    ensures { Refining nodes links.now edges.now settled.now tentative.old waiting.old tentative.new waiting.new result × ((length heads.now ≡ 0 → ⊥) → nodes ≤ result) }
+    ensures refining { Refining nodes links.now edges.now settled.now tentative.old waiting.old tentative.new waiting.new (lowest_waiting waiting.new) }
+    ensures lowest { MatchOption result (nodes ≤ lowest_waiting waiting.new) (λ v. (v < nodes) × (v ≡ lowest_waiting waiting.new)) }
+    ensures ended { (length heads.now ≡ 0 → ⊥) → result ≡ None }
 {
     let bare = heads.len() == 0;
     let mut left = FEW;
-    let mut v = lowest_in(waiting);
-    while v < nodes {
+    while let Some(v) = lowest_in(waiting)
+        && v < nodes
+    {
         if bare {
             if left == 0 {
-                return v;
+                return Some(v);
             }
             left -= 1;
         }
         turn(
             links, edges, settled, tentative, waiting, callers, firsts, heads, nexts, v,
         );
-        v = lowest_in(waiting);
     }
-    v
+    None
 }
 
 // The same to the end, with all indexes, which are built here.
@@ -187,10 +180,10 @@ pub fn refine_few(
     ensures { Settled nodes links.now edges.now settled.now tentative.old waiting.old tentative.new }
 {
     let none = &edges[..0];
-    let v = refine(
+    let left = refine(
         links, edges, nodes, settled, tentative, waiting, none, none, none, none,
     );
-    if v < nodes {
+    if left.is_some() {
         refine_indexed(links, edges, nodes, settled, tentative, waiting);
     }
 }

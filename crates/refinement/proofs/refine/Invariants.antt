@@ -3,14 +3,14 @@ use Prim.Native.Nat.{◌+◌, ◌*◌}
 use lib.ListN.{length}
 use Rattle.simulation.specs.Sets.{count}
 use Rattle.refinement.specs.Refining.{Refining, tabled}
-use Rattle.worklist.specs.Waiting.{waits}
+use Rattle.worklist.specs.Waiting.{waits, lowest_waiting}
 use Rattle.session.specs.Limits.{max_nodes}
 use Rattle.edge_indexes.specs.Indexes.{starts_size}
 use Rattle.refinement.proofs.refine.Given as goal
 
 abbrev pub invariant-loop-v : goal.invariant-loop-v
 invariant-loop-v l =
-    Refining l.nodes l.links l.edges l.settled l.initial.tentative l.initial.waiting l.tentative l.waiting l.v
+    Refining l.nodes l.links l.edges l.settled l.initial.tentative l.initial.waiting l.tentative l.waiting (lowest_waiting l.waiting)
 
 abbrev pub decreases-loop-v : goal.decreases-loop-v
 decreases-loop-v l =

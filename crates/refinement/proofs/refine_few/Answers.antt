@@ -1,27 +1,19 @@
 -- Without an index the looks are few; where nodes wait after them, the refinement goes on with one.
-use mathlib.Core.Path.{refl}
-use Rattle.refinement.proofs.Settling.{refining_end, refining_then}
+use Prim.Native.Nat.{ℕ}
+use mathlib.Core.Path.{◌≡◌, refl, sym, ◌∙◌}
+use mathlib.Core.Bool.{false}
+use Rattle.std.specs.Prelude.{Option, Some, None}
+use Rattle.std.specs.Option.{MatchOption, is_some}
+use Rattle.simulation.proofs.Sets.{clash}
+use Rattle.refinement.proofs.Settling.{refining_end}
 use Rattle.refinement.proofs.refine_few.Goals as goal
 
-pub refine-v-requires : goal.refine-v-requires
-refine-v-requires c =
-    record {
-      settled_len = c.requires.settled_len;
-      sound = (c.requires.sound.0, λ some. absurd (some refl), λ some. absurd (some refl), λ some. absurd (some refl));
-    }
+unstopped : (r : Option ℕ) (P : Type 0) (Q : ℕ → Type 0) → is_some r ≡ false → MatchOption r P Q → P
+unstopped None P Q e h = h
+unstopped (Some v) P Q e h = clash refl e
 
-pub refine_indexed-requires : goal.refine_indexed-requires
-refine_indexed-requires c =
-    let r = c.refine-v.ensures.0 in
-    record {
-      settled_len = (c.requires.settled_len.0, r.long, r.waits_long);
-      sound = (c.requires.sound.0, λ u v e. c.requires.sound.1 u v (r.within u v e));
-    }
-
-pub returns-then-v-nodes : goal.returns-then-v-nodes
-returns-then-v-nodes c =
-    refining_then _ _ _ c.requires.sound.0 _ _ _ _ _ _ _ c.refine-v.ensures.0 c.refine_indexed.ensures c.requires.settled_len.1
-
-pub returns-else-v-nodes : goal.returns-else-v-nodes
-returns-else-v-nodes c =
-    refining_end _ _ _ c.requires.sound.0 _ _ _ _ _ _ c.refine-v.ensures.0 c.if-v-nodes.false c.requires.sound.1 c.requires.settled_len.1
+pub returns-else-is_some : goal.returns-else-is_some
+returns-else-is_some c =
+    let r = c.refine-left in
+    refining_end _ _ _ c.requires.sound.0 _ _ _ _ _ _ r.ensures.refining
+    (unstopped r.result _ _ (sym c.is_some.ensures ∙ c.if-is_some.false) r.ensures.lowest) c.requires.sound.1 c.requires.settled_len.1

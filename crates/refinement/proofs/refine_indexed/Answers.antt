@@ -30,5 +30,6 @@ index_callers-requires c =
 
 pub returns : goal.returns
 returns c =
-    let r = c.refine in
-    refining_end _ _ _ c.requires.sound.0 _ _ _ _ _ _ r.ensures.0 (r.ensures.1 (λ none. omega (arith, none, c.index.ensures.heads_long))) c.requires.sound.1 c.requires.settled_len.1
+    let r = c.refine.ensures in
+    let none = r.ended (λ none. omega (arith, none, c.index.ensures.heads_long)) in
+    refining_end _ _ _ c.requires.sound.0 _ _ _ _ _ _ r.refining (rw none at r.lowest) c.requires.sound.1 c.requires.settled_len.1

@@ -6,17 +6,6 @@ use native.Mathlib.Omega.{arith}
 use Rattle.session.specs.Limits.{max_nodes}
 use Rattle.refinement.proofs.turn.Goals as goal
 
-pub left_at-left-requires : goal.left_at-left-requires
-left_at-left-requires c =
-    record {
-      settled_len = (c.requires.settled_len.0, c.requires.settled_len.1, c.requires.settled_len.3, omega (arith, c.requires.sound.0.few_states));
-      edges_value = (c.requires.sound.0.ascend, omega (arith, c.requires.sound.0.few_edges), c.requires.sound.1);
-    }
-
-pub calling-shaken-requires : goal.calling-shaken-requires
-calling-shaken-requires c =
-    (omega (arith, c.requires.sound.0.few_states), c.requires.sound.3)
-
 pub call_in-requires : goal.call_in-requires
 call_in-requires c =
     let a = c.args in record {
