@@ -8,7 +8,7 @@ ghost use Rattle.promises.specs.Promises.{Matches, Fires, Ordered};
 
 use promises::{Firing, Refusal, Standing, StateOrder};
 use reports::fires_now;
-use session_parts::links_of;
+use session_parts::Held;
 use walk_order::ordered;
 
 // The first rule broken by a question that names no state, if it breaks one.
@@ -59,7 +59,7 @@ pub fn fires(session: &[u32]) -> Result<Firing, Refusal>
     ensures { Fires session.now result }
 {
     question_rule(session)?;
-    Ok(Firing::from(fires_now(session)))
+    Ok(Firing::from(fires_now(&Held::of(session))))
 }
 
 // The states in depth-first order.
@@ -67,8 +67,9 @@ pub fn order(session: &[u32]) -> Result<StateOrder, Refusal>
     ensures { Ordered session.now result }
 {
     question_rule(session)?;
+    let held = Held::of(session);
     Ok(StateOrder {
-        count: session[0] as u8,
-        states: ordered(links_of(session)),
+        count: held.states() as u8,
+        states: ordered(held.links()),
     })
 }

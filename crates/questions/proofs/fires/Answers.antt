@@ -19,10 +19,9 @@ returns-in_err-question_rule c =
     let p = err_from_is_err_and c.from_residual.result c.from_residual.ensures.1 in
     rw (p.1, p.2) (answer-refused _ _ (c.in_err-question_rule.ensures {u = tt}) _ (number-some rule))
 
-pub fires_now-requires : goal.fires_now-requires
-fires_now-requires c =
-    passed c
+pub of-requires : goal.of-requires
+of-requires c = passed c
 
 pub returns : goal.returns
 returns c =
-    answer-accepted _ _ (c.in_ok-question_rule.ensures {u = tt}) _ _ refl (c.from.ensures ∙ c.fires_now.ensures)
+    answer-accepted _ _ (c.in_ok-question_rule.ensures {u = tt}) _ _ refl (c.from.ensures ∙ rw c.of.ensures at c.fires_now.ensures)

@@ -8,7 +8,7 @@ use Rattle.std.proofs.lemmas.Result.{err_from_is_err_and}
 use Rattle.promises.proofs.Refusals.{number-some}
 use Rattle.session.specs.Reached.{linked_by}
 use Rattle.session.specs.Layout.{table, section, in_layout}
-use Rattle.session.proofs.Decoded.{Bounded, layout_limits, layout-facts}
+use Rattle.session.proofs.Decoded.{layout_limits, layout-facts}
 use Rattle.listing.specs.Order.{order}
 use Rattle.questions.proofs.Asked.{answer-refused, answer-accepted, none-listed, all_listed, asked-order}
 use Rattle.session_parts.proofs.Parts.{held-links}
@@ -20,9 +20,6 @@ use Rattle.questions.proofs.order.Goals.{In_ok-question_rule}
 -- what the rules leave
 passed : (c : In_ok-question_rule) → in_layout c.args.session.now ≡ true
 passed c = (question-passed _ _ (sym (c.in_ok-question_rule.ensures {u = tt}))).0
-
-bounded : (c : In_ok-question_rule) → Bounded c.args.session.now
-bounded c = layout_limits _ (passed c)
 
 pub returns-in_err-question_rule : goal.returns-in_err-question_rule
 unfolding section table
@@ -36,27 +33,23 @@ returns-in_err-question_rule c =
       states = ap (λ (ys : List ℕ). section max_states ys) (none-listed _ _ q _ (number-some rule));
     }
 
-pub bounds-session-0 : goal.bounds-session-0
-bounds-session-0 c =
-    omega (arith, bounded (goal.at.bounds-session-0 c).In_ok-question_rule)
+pub of-held-requires : goal.of-held-requires
+of-held-requires c = passed (goal.at.of-held-requires c).In_ok-question_rule
 
 pub overflow_cast-result : goal.overflow_cast-result
 overflow_cast-result c =
-    omega (arith, bounded (goal.at.overflow_cast-result c).In_ok-question_rule)
-
-pub links_of-requires : goal.links_of-requires
-links_of-requires c =
-    passed (goal.at.links_of-requires c).In_ok-question_rule
+    omega (arith, c.states.ensures.is, (layout_limits _ c.states.ensures.held).few_states)
 
 pub ordered-requires : goal.ordered-requires
 ordered-requires c =
-    rw c.links_of.ensures (held-links _ (passed (goal.at.ordered-requires c).In_ok-question_rule))
+    rw c.links.ensures.is (held-links _ c.links.ensures.held)
 
 pub returns : goal.returns
 returns c =
     let h = passed (goal.at.returns c).In_ok-question_rule in
     let q = c.in_ok-question_rule.ensures {u = tt} in
+    let is = rw c.of-held.ensures at c.links.ensures.is in
     record {
-      answer = answer-accepted _ _ q _ _ refl (layout-facts _ h).counts.0;
-      states = c.ordered.ensures ∙ ap (λ (ys : List ℕ). section max_states ys) (ap (λ (ls : List ℕ). order (linked_by ls)) c.links_of.ensures ∙ asked-order _ h ∙ all_listed _ _ q _ refl);
+      answer = answer-accepted _ _ q _ _ refl (rw c.of-held.ensures at c.states.ensures.is ∙ (layout-facts _ h).counts.0);
+      states = c.ordered.ensures ∙ ap (λ (ys : List ℕ). section max_states ys) (ap (λ (ls : List ℕ). order (linked_by ls)) is ∙ asked-order _ h ∙ all_listed _ _ q _ refl);
     }
