@@ -1,7 +1,8 @@
 // The types in which the engine's calls answer. What each call promises is defined in specs/.
 #![tactic(auto)]
 
-ghost use Rattle.std.specs.Prelude.{◌≡◌};
+ghost use Rattle.std.specs.Prelude.{◌≡◌, ◌<◌, ◌^◌, ℕ, get_or};
+ghost use Rattle.session.specs.Limits.{word_bits};
 ghost use Rattle.promises.specs.Answers.{firing, number};
 
 use std::error::Error;
@@ -43,7 +44,8 @@ impl fmt::Display for Refusal {
 
 impl Error for Refusal {}
 
-// What a load is given: a list for each field, and the set of inverted states. The fields stand in lists of their own, as a caller in C has them.
+// What a load is given: a list for each field, and the set of inverted states. The fields stand in lists of their own, as a caller in C has them. That their
+// words are 16 bits wide is said by their type too.
 #[derive(Clone, Copy, Debug)]
 pub struct Lists<'a> {
     pub masks: &'a [u16],
@@ -53,6 +55,9 @@ pub struct Lists<'a> {
     pub samples: &'a [u16],
     pub starts: &'a [u32],
     pub ends: &'a [u32],
+    ghost masks_fit: { (i : ℕ) → get_or masks.now i 0 < 2 ^ word_bits },
+    ghost values_fit: { (i : ℕ) → get_or values.now i 0 < 2 ^ word_bits },
+    ghost samples_fit: { (i : ℕ) → get_or samples.now i 0 < 2 ^ word_bits },
 }
 
 // Whether every state that is reached from State One stands at some node.

@@ -7,7 +7,9 @@ use mathlib.Core.List.{List}
 use lib.ListN.{length, get_or, replicate}
 use Rattle.session.specs.Layout.{below, in_layout}
 use Rattle.session.proofs.Tables.{below_make}
+use Rattle.std.proofs.lemmas.Result.{err_from_is_err_and}
 use Rattle.pair_tables.proofs.Zeros.{zeros}
+use Rattle.promises.proofs.Refusals.{number-some}
 use Rattle.promises.specs.Answers.{refused}
 use Rattle.promises.specs.Rules.{Given, given_by, load_rules, verdict}
 use Rattle.promises.proofs.Loads.{load-room, load_elsewhere}
@@ -24,13 +26,13 @@ abbrev loaded : After-write_sections → Given
 loaded c = given_by c.args.lists.now
 
 masks_fit : (c : After-write_sections) → below (2 ^ word_bits) c.args.lists.now.masks.now ≡ true
-masks_fit c = halves c.args.lists.now.masks.now (λ i. omega (arith, c.type_inv.masks i))
+masks_fit c = halves c.args.lists.now.masks.now c.args.lists.now.masks_fit
 
 values_fit : (c : After-write_sections) → below (2 ^ word_bits) c.args.lists.now.values.now ≡ true
-values_fit c = halves c.args.lists.now.values.now (λ i. omega (arith, c.type_inv.values i))
+values_fit c = halves c.args.lists.now.values.now c.args.lists.now.values_fit
 
 samples_fit : (c : After-write_sections) → below (2 ^ word_bits) c.args.lists.now.samples.now ≡ true
-samples_fit c = halves c.args.lists.now.samples.now (λ i. omega (arith, c.type_inv.samples i))
+samples_fit c = halves c.args.lists.now.samples.now c.args.lists.now.samples_fit
 
 -- no rule is broken
 passed : (c : After-write_sections) → verdict (load_rules (length c.args.session.now) (length c.args.changes.now) (loaded c)) ≡ 0
@@ -41,17 +43,21 @@ layout c =
     load-layout (loaded c) c.args.session.now (length c.args.changes.now) (passed c) (masks_fit c) (values_fit c) (samples_fit c)
     c.write_sections.new.session c.write_sections.ensures
 
-pub returns-then-turned_back : goal.returns-then-turned_back
-returns-then-turned_back c =
-    let a = c.args in
+pub returns-in_err-load_rule : goal.returns-in_err-load_rule
+returns-in_err-load_rule c =
+    let a = c.args.lists.now in
+    let rule = c.in_err-load_rule.field-0.0 in
+    let told = c.in_err-load_rule.ensures {u = tt} in
+    let p = err_from_is_err_and c.from_residual.result c.from_residual.ensures.1 in
+    rw (p.1, p.2)
     record {
       words = (
-        halves a.lists.now.masks.now (λ i. omega (arith, c.type_inv.masks i)),
-        halves a.lists.now.values.now (λ i. omega (arith, c.type_inv.values i)),
-        halves a.lists.now.samples.now (λ i. omega (arith, c.type_inv.samples i)),
+        halves a.masks.now a.masks_fit,
+        halves a.values.now a.values_fit,
+        halves a.samples.now a.samples_fit,
       );
-      refuses = λ bad. record { answer = ap refused c.load_rule-broken.ensures; session = refl; room = refl };
-      accepts = λ ok. absurd (c.if-turned_back.true (c.load_rule-broken.ensures ∙ ok));
+      refuses = λ bad. record { answer = ap refused told; session = refl; room = refl };
+      accepts = λ ok. absurd (number-some rule (told ∙ ok));
     }
 
 pub write_sections-requires : goal.write_sections-requires
@@ -59,31 +65,34 @@ write_sections-requires c =
     let a = c.args in
     load_elsewhere (length a.session.now) (length a.changes.now)
     (given_by a.lists.now)
-    (sym c.load_rule-broken.ensures ∙ c.if-turned_back.false) max_changes (omega arith)
+    (sym (c.in_ok-load_rule.ensures {u = tt})) max_changes (omega arith)
+
+pub of-requires : goal.of-requires
+of-requires c = layout (goal.at.of-requires c).After-write_sections
 
 pub solve-trials-requires : goal.solve-trials-requires
-solve-trials-requires c =
-    let p = (goal.at.solve-trials-requires c).After-write_sections in
-    (layout p, refl, zeros max_nodes)
+solve-trials-requires c = (refl, zeros max_nodes)
 
 pub store_marks-requires : goal.store_marks-requires
 store_marks-requires c =
     let p = (goal.at.store_marks-requires c).After-write_sections in (
       layout p,
-      c.solve-trials.ensures.long,
+      (rw c.of.ensures at c.solve-trials.ensures).long,
       load_inside (loaded p) c.args.session.now (length c.args.changes.now) (passed p) (masks_fit p) (values_fit p) (samples_fit p)
-          c.write_sections.new.session c.write_sections.ensures c.solve-trials.result c.solve-trials.new.table c.solve-trials.ensures,
+          c.write_sections.new.session c.write_sections.ensures c.solve-trials.result c.solve-trials.new.table (rw c.of.ensures at c.solve-trials.ensures),
     )
+
+pub of-requires-2 : goal.of-requires-2
+of-requires-2 c =
+    let p = (goal.at.of-requires-2 c).After-write_sections in
+    load-marked (loaded p) c.args.session.now (length c.args.changes.now) (passed p) (masks_fit p) (values_fit p) (samples_fit p)
+    c.write_sections.new.session c.write_sections.ensures c.solve-trials.result c.solve-trials.new.table (rw c.of.ensures at c.solve-trials.ensures)
+    c.store_marks.new.session c.store_marks.ensures
 
 pub report-requires : goal.report-requires
 report-requires c =
-    let p = (goal.at.report-requires c).After-write_sections in (
-      load-marked (loaded p) c.args.session.now (length c.args.changes.now) (passed p) (masks_fit p) (values_fit p) (samples_fit p)
-          c.write_sections.new.session c.write_sections.ensures c.solve-trials.result c.solve-trials.new.table c.solve-trials.ensures
-          c.store_marks.new.session c.store_marks.ensures,
-      refl,
-      load-room (length c.args.session.now) (length c.args.changes.now) (loaded p) (passed p),
-    )
+    let p = (goal.at.report-requires c).After-write_sections in
+    (refl, load-room (length c.args.session.now) (length c.args.changes.now) (loaded p) (passed p))
 
 pub returns : goal.returns
 returns c =
@@ -93,6 +102,6 @@ returns c =
       refuses = λ bad. absurd (bad (passed p));
       accepts = λ ok.
           load-written (loaded p) c.args.session.now (length c.args.changes.now) (passed p) (masks_fit p) (values_fit p) (samples_fit p)
-          c.write_sections.new.session c.write_sections.ensures c.solve-trials.result c.solve-trials.new.table c.solve-trials.ensures
-          c.store_marks.new.session c.store_marks.ensures (replicate max_nodes 0) (zeros max_nodes) _ _ _ c.report.ensures;
+          c.write_sections.new.session c.write_sections.ensures c.solve-trials.result c.solve-trials.new.table (rw c.of.ensures at c.solve-trials.ensures)
+          c.store_marks.new.session c.store_marks.ensures (replicate max_nodes 0) (zeros max_nodes) _ _ _ (rw c.of-2.ensures at c.report.ensures);
     }

@@ -1,6 +1,5 @@
 -- The admitted pairs of what the session holds, refined from all nodes, are the greatest simulation.
 use mathlib.Core.Path.{refl}
-use native.Mathlib.Omega.{arith}
 use Rattle.session.specs.Limits.{max_nodes}
 use Rattle.pair_tables.proofs.Zeros.{zeros}
 use Rattle.refinement.proofs.Systems.{held_sound}
