@@ -1,19 +1,20 @@
 -- The layout test of a memory that is long enough is the three tests of its parts.
 use Prim.Native.Nat.{ℕ, ◌+◌, ◌-◌, ◌/◌, ◌%◌, ◌^◌, ◌<◌, ◌≤◌}
-use native.Mathlib.Nat.{add_assoc}
+use native.Mathlib.Nat.{add_assoc, add-sub_cancel_left, sub-add-eq}
 use native.Mathlib.Omega.{arith}
 use mathlib.Core.Path.{◌≡◌, refl, sym, ap, subst, ◌∙◌}
 use mathlib.Core.Logic.{⊎_elim}
 use mathlib.Core.Bool.{Bool, true, false, not, ◌&&◌, ◌||◌, cond}
 use mathlib.Core.List.{List, ◌∷◌, ◌++◌, append_assoc}
-use lib.Dec.{ltb, eqb}
+use lib.Dec.{ltb, leb, eqb}
 use lib.ListN.{length, get_or, take, drop, length-drop, take-append-drop, get_or-eq_default}
 use lib.Pow.{pow_pos}
 use lib.Seq.{length-take-le, get_or-take, get_or-drop, take-take, take-add, drop_at, drop-drop, drop-cons, ext_get_or}
 use borrow.Author.Tests.{ltb-true, lt-ltb, le-ltb, le-leb}
 use Rattle.simulation.specs.Sets.{Set, all_below}
 use Rattle.simulation.specs.Ordered.{ascends}
-use Rattle.simulation.proofs.Sets.{same, refuted, and_make, and_l, and_r, implies_make, implies_take, all_make, all_take}
+use Rattle.std.proofs.lemmas.Bool.Decides.{nat_tests}
+use Rattle.simulation.proofs.Sets.{clash, split, same, refuted, and_make, and_l, and_r, implies_make, implies_take, all_make, all_take}
 use Rattle.simulation.proofs.Search.{lt-or-le}
 use Rattle.simulation.proofs.Ordered.{rising_make, elem_at}
 use Rattle.bits.specs.Word.{members, word, within, set_bits}
@@ -41,27 +42,11 @@ use Rattle.session.proofs.Valid.{TriggerFacts, GraphFacts, graph-facts, marks-fa
 use Rattle.session.proofs.Image.{inverted-word, mask_word, value_word, link-word, sample_word, edge-word, mark_word_lem}
 use Rattle.session.proofs.Decoded.{marks-take, layout-image, LayoutFacts, layout-whole, layout-facts}
 
--- ---- a memory that is not in layout: it is too short, or a count is out of its limits
+-- ---- a memory that is not in layout: it is too short
 
 module _ (xs : List ℕ) where
-  pub layout-short : length xs < fixed_size → in_layout xs ≡ false
-  layout-short l = refuted (in_layout xs) (λ h. let f = layout-facts xs h in absurd (omega (arith, f.long)))
-
-  pub layout_no_states : fixed_size ≤ length xs → get_or xs 0 0 ≡ 0 → in_layout xs ≡ false
-  layout_no_states l e =
-      refuted (in_layout xs) (λ h. let f = layout-facts xs h in absurd (omega (arith, f.counts.0, f.trigger.some)))
-
-  pub layout-states : fixed_size ≤ length xs → max_states < get_or xs 0 0 → in_layout xs ≡ false
-  layout-states l e =
-      refuted (in_layout xs) (λ h. let f = layout-facts xs h in absurd (omega (arith, f.counts.0, f.trigger.few)))
-
-  pub layout-nodes : fixed_size ≤ length xs → max_nodes < get_or xs 1 0 → in_layout xs ≡ false
-  layout-nodes l e =
-      refuted (in_layout xs) (λ h. let f = layout-facts xs h in absurd (omega (arith, f.counts.1, f.graph.few)))
-
-  pub layout-edges : fixed_size ≤ length xs → max_edges < get_or xs 2 0 → in_layout xs ≡ false
-  layout-edges l e =
-      refuted (in_layout xs) (λ h. let f = layout-facts xs h in absurd (omega (arith, f.counts.2, f.graph.few_edges)))
+  pub layout_short : length xs < fixed_size → in_layout xs ≡ false
+  layout_short l = refuted (in_layout xs) (λ h. let f = layout-facts xs h in absurd (omega (arith, f.long)))
 
 -- ---- parts and sections of a memory
 
@@ -279,14 +264,14 @@ module _ (xs : List ℕ) where
           (all_make n row (λ u l. row_make u (λ v c d. f.kept u v l c d)))
 
 -- where the tests of trigger and graph pass, masks and samples are words; marks are, where their section fits
-pub test-masks : (xs : List ℕ) (n : ℕ) → trigger_test xs n ≡ true → n ≤ max_states → fixed_size ≤ length xs
+pub test_masks : (xs : List ℕ) (n : ℕ) → trigger_test xs n ≡ true → n ≤ max_states → fixed_size ≤ length xs
     → below (2 ^ word_bits) (part xs masks_at n) ≡ true
-test-masks xs n h few long =
+test_masks xs n h few long =
     fits_below xs masks_at max_states word_bits n (omega arith) few (trigger-take xs long n h).masks
 
-pub test-samples : (xs : List ℕ) (m e : ℕ) → graph_test xs m e ≡ true → m ≤ max_nodes → e ≤ max_edges → fixed_size ≤ length xs
+pub test_samples : (xs : List ℕ) (m e : ℕ) → graph_test xs m e ≡ true → m ≤ max_nodes → e ≤ max_edges → fixed_size ≤ length xs
     → below (2 ^ word_bits) (part xs samples_at m) ≡ true
-test-samples xs m e h few edges long =
+test_samples xs m e h few edges long =
     fits_below xs samples_at max_nodes word_bits m (omega arith) few (graph-take xs long m e edges h).samples
 
 -- the n words from p on, whose first m are tested together, and the others
@@ -342,6 +327,15 @@ marks-word : (n w : ℕ) (X : Set) → ((u : ℕ) → u < n → X u ≡ members 
 marks-word n w X h l = word_same n X (members w) h ∙ members-word n w l
 
 -- ---- the test
+
+abbrev limits : ℕ → ℕ → ℕ → Bool
+limits n m e = not (eqb n 0) && leb n max_states && leb m max_nodes && leb e max_edges
+
+limits_take : (n m e : ℕ) → limits n m e ≡ true → (1 ≤ n) × (n ≤ max_states) × (m ≤ max_nodes) × (e ≤ max_edges)
+limits_take n m e h = grind (arith, nat_tests)
+
+limits_make : (n m e : ℕ) → 1 ≤ n → n ≤ max_states → m ≤ max_nodes → e ≤ max_edges → limits n m e ≡ true
+limits_make n m e some few few_nodes few_edges = grind (arith, nat_tests)
 
 module _ (xs : List ℕ) where
   -- the counts, and what the memory holds
@@ -572,3 +566,29 @@ module _ (xs : List ℕ) where
       (trigger-take xs long n (and_l a (b && c) h))
       (graph-take xs long m e few_edges (and_l b c r))
       (mark_take xs long n m few_nodes (and_r b c r)))
+
+  -- with the limits of the counts among the tests
+  pub layout_tests : fixed_size ≤ length xs → in_layout xs
+      ≡ ((not (eqb (get_or xs 0 0) 0) && leb (get_or xs 0 0) max_states && leb (get_or xs 1 0) max_nodes && leb (get_or xs 2 0) max_edges)
+      && (trigger_test xs (get_or xs 0 0) && (graph_test xs (get_or xs 1 0) (get_or xs 2 0) && marks_test xs (get_or xs 0 0) (get_or xs 1 0))))
+  layout_tests long =
+      ⊎_elim
+      (λ (h : limits n m e ≡ true). let l = limits_take n m e h in rw h (layout-test long l.0 l.1 l.2 l.3))
+      (λ (h : limits n m e ≡ false).
+      rw h
+      (refuted (in_layout xs)
+      (λ i.
+      let f = layout-facts xs i in
+      clash
+      (limits_make n m e (omega (arith, f.counts.0, f.trigger.some)) (omega (arith, f.counts.0, f.trigger.few)) (omega (arith, f.counts.1, f.graph.few))
+      (omega (arith, f.counts.2, f.graph.few_edges)))
+      h)))
+      (split (limits n m e))
+
+-- the parts of the edges, as the code cuts them
+pub graph_parts : (xs : List ℕ) (m e : ℕ) → graph_test xs m e
+    ≡ (fits word_bits m (part xs samples_at max_nodes)
+    && (below 1 (part xs (edges_at + e) (marks_at - (edges_at + e)))
+    && (ascends (part xs edges_at (edges_at + e - edges_at)) && all_named m (part xs edges_at (edges_at + e - edges_at)))))
+unfolding graph_test
+graph_parts xs m e = rw (sub-add-eq marks_at edges_at e, add-sub_cancel_left edges_at e)

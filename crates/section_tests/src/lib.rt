@@ -1,7 +1,7 @@
 // Tests of sections: the size of words, zeros where a section is unused, edges that ascend and name nodes, marks at admitted pairs alone.
 #![tactic(auto)]
 
-ghost use Rattle.std.specs.Prelude.{◌≡◌, Bool, true, ◌&&◌, not, cond, ℕ, ◌+◌, ◌-◌, ◌^◌, ◌≤◌, ◌<◌, eqb, length, get_or};
+ghost use Rattle.std.specs.Prelude.{◌≡◌, true, ◌&&◌, not, ℕ, ◌+◌, ◌-◌, ◌^◌, ◌≤◌, ◌<◌, eqb, length, get_or};
 ghost use Rattle.simulation.specs.Ordered.{ascends};
 ghost use Rattle.bits.specs.Word.{within, members, half_bits, set_bits};
 ghost use Rattle.session.specs.Layout.{below};
