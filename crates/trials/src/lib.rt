@@ -95,15 +95,12 @@ pub fn alone(session: &[u32], start: u32, word: u32) -> bool
 {
     let edges = edges_of(session);
     let turned = turned_of(session);
-    let mut k = 0;
-    while k < edges.len() {
-        let edge = edges[k];
+    for edge in edges {
         if edge % session::EDGE_BASE == start {
             if fresh_among(session, turned, word, edge / session::EDGE_BASE) {
                 return false;
             }
         }
-        k += 1;
     }
     true
 }
