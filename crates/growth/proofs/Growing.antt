@@ -10,7 +10,6 @@ use lib.Dec.{ltb, eqb}
 use lib.ListN.{length, get_or}
 use borrow.Author.Tests.{lt-ltb, eqb-true, eqb-false}
 use Rattle.simulation.specs.Sets.{Set, In, minus, without, any_below, count}
-use Rattle.simulation.specs.Search.{first}
 use Rattle.simulation.specs.Ordered.{joins}
 use Rattle.simulation.specs.System.{System, reaches, closure}
 use Rattle.simulation.specs.Pattern.{Pattern, pair, system}
@@ -23,17 +22,16 @@ use Rattle.bits.specs.Word.{members, set_bits}
 use Rattle.session.specs.Limits.{max_nodes}
 use Rattle.links.specs.Links.{links_to}
 use Rattle.pair_tables.specs.Tables.{marked}
-use Rattle.worklist.specs.Waiting.{waits, waiting_words}
+use Rattle.worklist.specs.Waiting.{waits, waiting_words, lowest_waiting}
 use Rattle.edge_indexes.specs.Indexes.{predecessors, starts_size}
 use Rattle.refinement.specs.Refining.{Sound, pattern_of, tabled}
 use Rattle.refinement.proofs.Settling.{fewer, joins-predecessors, predecessors-joins}
 use Rattle.growth.specs.Growth.{Spread, Grown}
 
--- what holds before each look, where v is the lowest node that waits
-pub record Growing (nodes : ℕ) (links es fs seeds ts ws : List ℕ) (v : ℕ) : Type 0 where
+-- what holds before each look
+pub record Growing (nodes : ℕ) (links es fs seeds ts ws : List ℕ) : Type 0 where
   pub long : length ts ≡ max_nodes
   pub waits_long : length ws ≡ waiting_words
-  pub lowest : v ≡ first (waits ws) 0 max_nodes
   pub fresh : (u w : ℕ) → marked ts u w ≡ true → marked fs u w ≡ true
   pub seeded : (u w : ℕ) → marked seeds u w ≡ true → marked ts u w ≡ true
   pub within : (p : ℕ) → In (tabled nodes links es ts) p
@@ -220,42 +218,41 @@ module _ (nodes : ℕ) (links es : List ℕ) (sound : Sound nodes links es) (fs 
   -- ---- the whole growth
 
   module _ (seeds : List ℕ) where
-    pub growing_start : {ws : List ℕ} {v : ℕ} → length seeds ≡ max_nodes → length ws ≡ waiting_words → v ≡ first (waits ws) 0 max_nodes
-        → ((u w : ℕ) → marked seeds u w ≡ true → (marked fs u w ≡ true) × (waits ws w ≡ true)) → Growing nodes links es fs seeds seeds ws v
-    growing_start long waits_long lowest seed =
+    pub growing_start : {ws : List ℕ} → length seeds ≡ max_nodes → length ws ≡ waiting_words
+        → ((u w : ℕ) → marked seeds u w ≡ true → (marked fs u w ≡ true) × (waits ws w ≡ true)) → Growing nodes links es fs seeds seeds ws
+    growing_start long waits_long seed =
         record {
           long = long;
           waits_long = waits_long;
-          lowest = lowest;
           fresh = λ u w h. (seed u w h).0;
           seeded = λ u w h. h;
           within = λ p h. let f = (seed (p % n) (p / n) h).0 in closure-seed s (T fs) (T seeds) p (inside p f) f h;
           follows = λ p o q l f k d m h idle. clash (seed (q % n) (q / n) h).1 idle;
         }
 
-    pub growing_more : {ts ws ts' ws' : List ℕ} {v v' : ℕ} → Growing nodes links es fs seeds ts ws v → Spread links es fs ts ws v ts' ws'
-        → v' ≡ first (waits ws') 0 max_nodes → Growing nodes links es fs seeds ts' ws' v'
-    growing_more {ts} {ws} {ts'} {ws'} {v} g spread lowest =
+    pub growing_more : {ts ws ts' ws' : List ℕ} {v : ℕ} → Growing nodes links es fs seeds ts ws → Spread links es fs ts ws v ts' ws'
+        → Growing nodes links es fs seeds ts' ws'
+    growing_more {ts} {ws} {ts'} {ws'} {v} g spread =
         record {
           long = spread.table_long ∙ g.long;
           waits_long = spread.waits_long ∙ g.waits_long;
-          lowest = lowest;
           fresh = fresh_still ts ws v ts' ws' spread g.fresh;
           seeded = λ u w h. stays ts ws v ts' ws' spread u w (g.seeded u w h);
           within = within_still ts ws v ts' ws' spread seeds g.fresh g.within;
           follows = follows_still ts ws v ts' ws' spread g.follows;
         }
 
-    pub growing_less : {ts ws ts' ws' : List ℕ} {v : ℕ} → Growing nodes links es fs seeds ts ws v → v < nodes → Spread links es fs ts ws v ts' ws'
+    pub growing_less : {ts ws ts' ws' : List ℕ} {v : ℕ} → Growing nodes links es fs seeds ts ws → v ≡ lowest_waiting ws → v < nodes
+        → Spread links es fs ts ws v ts' ws'
         → left nodes links es fs ts' ws' < left nodes links es fs ts ws
-    growing_less {ts} {ws} {ts'} {ws'} {v} g l spread =
+    growing_less {ts} {ws} {ts'} {ws'} {v} g lowest l spread =
         let few : v < max_nodes = omega (arith, sound.few_nodes) in
         left_less ts ws v ts' ws' spread (fresh_still ts ws v ts' ws' spread g.fresh) few
-        (rw g.lowest (first-at (waits ws) 0 max_nodes (omega arith) (omega (arith, g.lowest))))
+        (rw lowest (first-at (waits ws) 0 max_nodes (omega arith) (omega (arith, lowest))))
 
     -- no node waits that has a pair
-    pub growing_end : {ts ws : List ℕ} {v : ℕ} → Growing nodes links es fs seeds ts ws v → nodes ≤ v → Grown nodes links es fs seeds ts
-    growing_end {ts} {ws} {v} g done =
+    pub growing_end : {ts ws : List ℕ} → Growing nodes links es fs seeds ts ws → nodes ≤ lowest_waiting ws → Grown nodes links es fs seeds ts
+    growing_end {ts} {ws} g done =
         record {
           long = g.long;
           within = g.fresh;
@@ -270,5 +267,5 @@ module _ (nodes : ℕ) (links es : List ℕ) (sound : Sound nodes links es) (fs 
             let q = r.3.0 in
             let at : q / n < nodes = (fits (q % n) (q / n) (g.fresh (q % n) (q / n) r.3.3)).1 in
             g.follows p r.0 q l f r.1 r.2 r.3.2 r.3.3
-            (first-before (waits ws) 0 max_nodes (q / n) (omega arith) (omega (arith, g.lowest))))
+            (first-before (waits ws) 0 max_nodes (q / n) (omega arith) (omega arith)))
             (or-take (T seeds p) (reaches s (T ts) p) h)

@@ -72,11 +72,11 @@ pub fn grow(
 {
     let mut callers = [0u32; CALLERS];
     index_callers(links, &mut callers);
-    let mut v = lowest_in(waiting);
-    while v < nodes {
+    while let Some(v) = lowest_in(waiting)
+        && v < nodes
+    {
         spread(
             links, edges, fresh, trials, waiting, &callers, heads, nexts, v,
         );
-        v = lowest_in(waiting);
     }
 }

@@ -94,15 +94,12 @@ pub fn alone(session: &Held, start: u32, word: u32) -> bool
 {
     let edges = session.edges();
     let turned = session.turned();
-    let mut k = 0;
-    while k < edges.len() {
-        let edge = edges[k];
+    for edge in edges {
         if edge % session::EDGE_BASE == start {
             if fresh_among(session, turned, word, edge / session::EDGE_BASE) {
                 return false;
             }
         }
-        k += 1;
     }
     true
 }

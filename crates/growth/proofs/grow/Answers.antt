@@ -1,9 +1,11 @@
 use native.Mathlib.Omega.{arith}
-use mathlib.Core.Path.{refl, ◌∙◌}
+use mathlib.Core.Path.{◌≡◌, refl}
 use Rattle.pair_tables.proofs.Zeros.{zeros}
-use Rattle.refinement.proofs.Turns.{sound_wider}
 use Rattle.growth.proofs.Growing.{growing_start, growing_more, growing_less, growing_end}
 use Rattle.bits.specs.Word.{set_bits}
+use Rattle.session.specs.Limits.{max_nodes}
+use Rattle.worklist.specs.Waiting.{lowest_waiting}
+use borrow.Author.Rules.{rules}
 use Rattle.growth.proofs.grow.Goals as goal
 
 pub index_callers-requires : goal.index_callers-requires
@@ -12,35 +14,21 @@ index_callers-requires c =
 
 pub loop-v-init : goal.loop-v-init
 loop-v-init c =
-    growing_start _ _ _ c.requires.sound.0 _ c.requires.by_index _ c.requires.fresh_len.1 c.requires.fresh_len.2 c.lowest_in-v.ensures c.requires.by_index_2
-
-pub spread-requires : goal.spread-requires
-spread-requires c =
-    record {
-      fresh_len = (c.requires.fresh_len.0, c.loop-v.invariant.long, c.loop-v.invariant.waits_long, omega (arith, c.loop-v-test.true, c.requires.sound.0.few_nodes));
-      sound = (sound_wider _ _ _ c.requires.sound.0, c.requires.sound.1, c.index_callers.ensures);
-    }
-
-pub lowest_in-v-requires-in-loop-v : goal.lowest_in-v-requires-in-loop-v
-lowest_in-v-requires-in-loop-v c =
-    c.spread.ensures.waits_long ∙ c.loop-v.invariant.waits_long
+    growing_start _ _ _ c.requires.sound.0 _ c.requires.by_index _ c.requires.fresh_len.1 c.requires.fresh_len.2 c.requires.by_index_2
 
 pub loop-v-smaller : goal.loop-v-smaller
 loop-v-smaller c =
-    growing_less _ _ _ c.requires.sound.0 _ c.requires.by_index _ c.loop-v.invariant c.loop-v-test.true c.spread.ensures
+    growing_less _ _ _ c.requires.sound.0 _ c.requires.by_index _ c.loop-v.invariant c.in-Some.ensures.1 c.if-v-nodes.true c.spread.ensures
 
 pub loop-v-preserved : goal.loop-v-preserved
 loop-v-preserved c =
-    growing_more _ _ _ c.requires.sound.0 _ c.requires.by_index _ c.loop-v.invariant c.spread.ensures c.lowest_in-v-in-loop-v.ensures
+    growing_more _ _ _ c.requires.sound.0 _ c.requires.by_index _ c.loop-v.invariant c.spread.ensures
 
-pub shape_of-trials : goal.shape_of-trials
-shape_of-trials c =
-    omega (arith, c.loop-v.invariant.long, c.requires.fresh_len)
+pub returns-in-loop-v : goal.returns-in-loop-v
+returns-in-loop-v c =
+    let none : lowest_waiting c.loop-v.waiting ≡ max_nodes = search rules in
+    growing_end _ _ _ c.requires.sound.0 _ c.requires.by_index _ c.loop-v.invariant (omega (arith, none, c.requires.sound.0.few_nodes))
 
-pub shape_of-waiting : goal.shape_of-waiting
-shape_of-waiting c =
-    omega (arith, c.loop-v.invariant.waits_long, c.requires.fresh_len)
-
-pub returns : goal.returns
-returns c =
-    growing_end _ _ _ c.requires.sound.0 _ c.requires.by_index _ c.loop-v.invariant c.loop-v-test.false
+pub returns-else-v-nodes : goal.returns-else-v-nodes
+returns-else-v-nodes c =
+    growing_end _ _ _ c.requires.sound.0 _ c.requires.by_index _ c.loop-v.invariant (omega (arith, c.in-Some.ensures.1, c.if-v-nodes.false))

@@ -4,7 +4,7 @@ use Rattle.growth.proofs.grow.Given as goal
 
 abbrev pub invariant-loop-v : goal.invariant-loop-v
 invariant-loop-v l =
-    Growing l.nodes l.links l.edges l.fresh l.initial.trials l.trials l.waiting l.v
+    Growing l.nodes l.links l.edges l.fresh l.initial.trials l.trials l.waiting
 
 abbrev pub decreases-loop-v : goal.decreases-loop-v
 decreases-loop-v l =

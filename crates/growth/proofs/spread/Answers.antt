@@ -1,30 +1,13 @@
 use borrow.Author.Rules.{rules}
-use native.Mathlib.Omega.{arith}
 use Rattle.edge_indexes.proofs.Incoming.{chained_less}
-use Rattle.growth.proofs.Spreading.{spreading_start, spreading_more, spreading_done, starts-inside}
+use Rattle.growth.proofs.Spreading.{spreading_start, spreading_more, spreading_done}
 use Rattle.growth.proofs.spread.Goals as goal
-
-pub calling-able-requires : goal.calling-able-requires
-calling-able-requires c =
-    (omega (arith, c.requires.sound.0.few_states), λ some. c.requires.sound.2)
 
 pub loop-next-init : goal.loop-next-init
 loop-next-init c =
     let out = c.take_out in
     spreading_start c.requires.sound.1 c.args.fresh.now c.args.v c.calling-able.result c.args.trials.now out.new.waiting
     (search rules) (search rules) out.ensures.0
-
-pub offset_bounds-fresh-start : goal.offset_bounds-fresh-start
-offset_bounds-fresh-start c =
-    omega (arith, starts-inside c.requires.sound.0 c.loop-next.invariant.chain c.loop-next-test.true)
-
-pub bounds-fresh-start : goal.bounds-fresh-start
-bounds-fresh-start c =
-    omega (arith, starts-inside c.requires.sound.0 c.loop-next.invariant.chain c.loop-next-test.true)
-
-pub try_at-requires : goal.try_at-requires
-try_at-requires c =
-    (search rules, search rules, starts-inside c.requires.sound.0 c.loop-next.invariant.chain c.loop-next-test.true)
 
 pub loop-next-smaller : goal.loop-next-smaller
 loop-next-smaller c =

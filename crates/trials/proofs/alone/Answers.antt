@@ -14,41 +14,39 @@ use Rattle.session.specs.Limits.{max_nodes}
 use Rattle.trials.proofs.alone.Goals as goal
 use Rattle.trials.proofs.alone.Goals.{then-edge-start+else-fresh_among, else-edge-start}
 
-pub loop-k-init : goal.loop-k-init
-loop-k-init c =
-    let a = c.args in (search rules, λ h. alone-none a.session.now h a.start a.word)
+pub loop-edge-init : goal.loop-edge-init
+loop-edge-init c =
+    let a = c.args in λ h. alone-none a.session.now h a.start a.word
 
 pub fresh_among-requires : goal.fresh_among-requires
 fresh_among-requires c =
     let xs = c.args.session.now in
-    let k = c.loop-k.k in
-    (c.turned-turned.ensures, omega (arith, (held_sound xs c.edges-edges.ensures.held (trigger_of xs).links _ refl c.edges-edges.ensures.is).starts k c.loop-k-test.true, (layout-facts xs c.edges-edges.ensures.held).counts.1))
+    let k = c.loop-edge.edge-index in
+    (c.turned-turned.ensures, omega (arith, (held_sound xs c.edges-edges.ensures.held (trigger_of xs).links _ refl c.edges-edges.ensures.is).starts k c.loop-edge-test.true, (layout-facts xs c.edges-edges.ensures.held).counts.1))
 
 pub returns-then-fresh_among : goal.returns-then-fresh_among
 returns-then-fresh_among c =
     let a = c.args in
-    let k = c.loop-k.k in
+    let k = c.loop-edge.edge-index in
     let is = c.edges-edges.ensures.is in
-    alone-found a.session.now c.edges-edges.ensures.held a.start a.word k (subst (λ (es : List ℕ). k < length es) is c.loop-k-test.true)
+    alone-found a.session.now c.edges-edges.ensures.held a.start a.word k (subst (λ (es : List ℕ). k < length es) is c.loop-edge-test.true)
     (subst (λ (es : List ℕ). get_or es k 0 % max_nodes ≡ a.start) is c.if-edge-start.true)
     (subst (λ (es : List ℕ). fresh_among a.session.now a.word (get_or es k 0 / max_nodes) ≡ true) is (sym c.fresh_among.ensures ∙ c.if-fresh_among.true))
 
-pub loop-k-preserved : goal.loop-k-preserved
-loop-k-preserved c =
+pub loop-edge-preserved : goal.loop-edge-preserved
+loop-edge-preserved c =
     let a = c.args in
-    let k = c.loop-k.k in
-    let is = c.edges-edges.ensures.is in (
-      search rules,
-      λ i.
-          alone-more a.session.now i a.start a.word k (c.loop-k.invariant.1 i)
+    let k = c.loop-edge.edge-index in
+    let is = c.edges-edges.ensures.is in
+    λ i.
+    alone-more a.session.now i a.start a.word k (c.loop-edge.invariant i)
           (λ at-end.
           elim c.if-edge-start.branch [
             | then-edge-start+else-fresh_among w ↦ subst (λ (es : List ℕ). fresh_among a.session.now a.word (get_or es k 0 / max_nodes) ≡ false) is (sym w.fresh_among.ensures ∙ w.if-fresh_among.false)
             | else-edge-start w ↦ absurd (w.if-edge-start.false (subst (λ (es : List ℕ). get_or es k 0 % max_nodes ≡ a.start) (sym is) at-end))
-          ]),
-    )
+          ])
 
 pub returns : goal.returns
 returns c =
     let a = c.args in
-    alone-all a.session.now c.edges-edges.ensures.held a.start a.word c.loop-k.k (omega (arith, c.loop-k.invariant.0, c.loop-k-test.false) ∙ ap length c.edges-edges.ensures.is) (c.loop-k.invariant.1 c.edges-edges.ensures.held)
+    alone-all a.session.now c.edges-edges.ensures.held a.start a.word c.loop-edge.edge-index (omega (arith, c.loop-edge-test.false) ∙ ap length c.edges-edges.ensures.is) (c.loop-edge.invariant c.edges-edges.ensures.held)

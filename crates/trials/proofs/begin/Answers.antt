@@ -54,8 +54,9 @@ returns c =
     let xs = c.args.session.now in
     let r = rw c.nodes-nodes.ensures.is at c.refine.ensures in
     let sound = held_sound xs c.nodes-nodes.ensures.held _ _ c.links-links.ensures.is c.edges-edges.ensures.is in
+    let none = r.ended (λ none. omega (arith, none, c.requires.indexed.heads_long)) in
     let few = (layout-facts xs c.nodes-nodes.ensures.held).counts.1 in
     trials-refined xs c.nodes-nodes.ensures.held _ _ c.links-links.ensures.is c.edges-edges.ensures.is _ _ _ _
-    (refining_end _ _ _ sound _ _ _ _ _ _ r.0 (r.1 (λ none. omega (arith, none, c.requires.indexed.heads_long))) (λ u v e. omega (arith, few, (c.requires.session_value.1 u v e).1)) c.requires.session_value.0)
+    (refining_end _ _ _ sound _ _ _ _ _ _ r.refining (rw none at r.lowest) (λ u v e. omega (arith, few, (c.requires.session_value.1 u v e).1)) c.requires.session_value.0)
     c.requires.session_value.0 c.requires.session_value.1 c.marks.ensures.is
     (λ v some. c.call_all.ensures.1 v ∙ or_r (waits (replicate waiting_words 0) v) (not_make (ne_eqb (get_or c.args.table.now v 0) 0 some)))
