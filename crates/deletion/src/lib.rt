@@ -8,11 +8,11 @@ ghost use Rattle.session.specs.Layout.{trigger_of, graph_of, marks_of, in_layout
 ghost use Rattle.pair_tables.specs.Tables.{marked};
 ghost use Rattle.promises.specs.Rules.{deletion, graph_rules, verdict};
 ghost use Rattle.promises.specs.Promises.{Done, ceased};
-ghost use Rattle.editing.specs.Steps.{steady_at, Ceased, Saved};
+ghost use Rattle.editing.specs.Steps.{steady_at, Ceased, Saved, calm, tried};
 
 use edge_indexes::edges_from;
 use edges::held::remove_edge;
-use editing::{Effect, refine_at};
+use editing::refine_at;
 use pair_tables::{pairs_in, take_away};
 use refinement::unmet;
 use session_parts::{Held, store_marks};
@@ -53,26 +53,20 @@ pub fn ceased_pairs(session: &Held, table: &[u32]) -> u32
 }
 
 // Deletes an edge that breaks no rule, and corrects the marks. Before they change, they are saved.
-pub fn delete_edit(session: &mut [u32], start: u32, end: u32, before: &mut [u32]) -> Effect
+pub fn delete_edit(session: &mut [u32], start: u32, end: u32, before: &mut [u32]) -> Option<u32>
     requires { (in_layout session.old ≡ true) × (verdict (graph_rules deletion (graph_of session.old) start end) ≡ 0) × (length before.old ≡ max_nodes) }
-    ensures { Done deletion (trigger_of session.old) (graph_of session.old) (marks_of session.old) (marks_of session.new) start end result.trials session.old session.new × Saved session.old session.new before.new result.calm }
+    ensures { Done deletion (trigger_of session.old) (graph_of session.old) (marks_of session.old) (marks_of session.new) start end (tried result) session.old session.new × Saved session.old session.new before.new (calm result) }
 {
     remove_edge(session, start, end);
     let held = Held::of(session);
     let unmoved = steady(&held, start);
     if unmoved {
-        return Effect {
-            trials: 0,
-            calm: true,
-        };
+        return None;
     }
     before.copy_from_slice(held.marks());
     let mut table = [0u32; session::MAX_NODES];
     cease(&held, start, &mut table);
     let trials = ceased_pairs(&held, &table);
     store_marks(session, &table);
-    Effect {
-        trials,
-        calm: false,
-    }
+    Some(trials)
 }

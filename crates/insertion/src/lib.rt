@@ -6,13 +6,12 @@ ghost use Rattle.bits.specs.Word.{members};
 ghost use Rattle.session.specs.Limits.{max_nodes};
 ghost use Rattle.session.specs.Trigger.{nodes};
 ghost use Rattle.session.specs.Layout.{trigger_of, graph_of, in_layout, marks_of};
-ghost use Rattle.editing.specs.Steps.{Begun, seeds_of, Saved};
+ghost use Rattle.editing.specs.Steps.{Begun, seeds_of, Saved, calm, tried};
 ghost use Rattle.promises.specs.Rules.{insertion, graph_rules, verdict};
 ghost use Rattle.promises.specs.Promises.{Done};
 
 use edge_indexes::index;
 use edges::held::insert_edge;
-use editing::Effect;
 use links::linking;
 use pair_tables::{pairs_in, put_together};
 use session_parts::{Held, store_marks};
@@ -49,27 +48,21 @@ pub fn try_out(session: &Held, start: u32, seeds: u32, table: &mut [u32]) -> u32
 }
 
 // Inserts an edge that breaks no rule, and corrects the marks. Before they change, they are saved.
-pub fn insert_edit(session: &mut [u32], start: u32, end: u32, before: &mut [u32]) -> Effect
+pub fn insert_edit(session: &mut [u32], start: u32, end: u32, before: &mut [u32]) -> Option<u32>
     requires { (in_layout session.old ≡ true) × (verdict (graph_rules insertion (graph_of session.old) start end) ≡ 0) × (length before.old ≡ max_nodes) }
-    ensures { Done insertion (trigger_of session.old) (graph_of session.old) (marks_of session.old) (marks_of session.new) start end result.trials session.old session.new × Saved session.old session.new before.new result.calm }
+    ensures { Done insertion (trigger_of session.old) (graph_of session.old) (marks_of session.old) (marks_of session.new) start end (tried result) session.old session.new × Saved session.old session.new before.new (calm result) }
 {
     insert_edge(session, start, end);
     let held = Held::of(session);
     let seeds = seeds_at(&held, start, end);
     let fruitless = seeds == 0;
     if fruitless {
-        return Effect {
-            trials: 0,
-            calm: true,
-        };
+        return None;
     }
     before.copy_from_slice(held.marks());
     let mut table = [0u32; session::MAX_NODES];
     let trials = try_out(&held, start, seeds, &mut table);
     put_together(&mut table, held.marks());
     store_marks(session, &table);
-    Effect {
-        trials,
-        calm: false,
-    }
+    Some(trials)
 }
