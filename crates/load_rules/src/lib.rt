@@ -5,8 +5,10 @@ ghost use Rattle.std.specs.Prelude.{◌≡◌, not, ◌&&◌, ◌||◌, suc, ◌
 ghost use Rattle.simulation.specs.Sets.{all_below};
 ghost use Rattle.session.specs.Limits.{max_edges, max_states};
 ghost use Rattle.session.specs.Layout.{below};
+ghost use Rattle.promises.specs.Answers.{first_broken};
 ghost use Rattle.promises.specs.Rules.{given, precedes, load_rules, verdict};
 
+use promises::Refusal;
 use reports::too_short;
 
 // Rule 4: no state, too many, or one given in part, such as an inverted state that has no mask.
@@ -63,7 +65,7 @@ pub fn order_wrong(starts: &[u32], ends: &[u32]) -> bool
     faults != 0
 }
 
-// The number of the first rule that a load breaks, and 0 where it breaks none.
+// The first rule that a load breaks, if it breaks one.
 #[tactic(auto, unfolding(promises::specs::Rules::verdict))]
 pub fn load_rule(
     memory: usize,
@@ -75,29 +77,29 @@ pub fn load_rule(
     samples: &[u16],
     starts: &[u32],
     ends: &[u32],
-) -> u8
-    ensures { result ≡ verdict (load_rules memory room (given masks.now values.now links.now inverted samples.now starts.now ends.now)) }
+) -> Result<(), Refusal>
+    ensures { first_broken result ≡ verdict (load_rules memory room (given masks.now values.now links.now inverted samples.now starts.now ends.now)) }
 {
     if too_short(memory, room) {
-        return 3;
+        return Err(Refusal::MemoryShort);
     }
     if states_wrong(masks.len(), values.len(), links.len(), inverted) {
-        return 4;
+        return Err(Refusal::StatesWrong);
     }
     if links_wrong(links, masks.len()) {
-        return 5;
+        return Err(Refusal::LinkWrong);
     }
     if session::MAX_NODES < samples.len() {
-        return 6;
+        return Err(Refusal::NodesWrong);
     }
     if edges_wrong(starts.len(), ends.len()) {
-        return 7;
+        return Err(Refusal::EdgesWrong);
     }
     if nodes_wrong(starts, ends, samples.len() as u32) {
-        return 8;
+        return Err(Refusal::EdgeNodeWrong);
     }
     if order_wrong(starts, ends) {
-        return 9;
+        return Err(Refusal::EdgesUnordered);
     }
-    0
+    Ok(())
 }

@@ -2,7 +2,7 @@
 use Prim.Native.Nat.{ℕ}
 use native.Mathlib.Nat.{zero-add}
 use mathlib.Core.Path.{◌≡◌, refl, ◌∙◌, ap}
-use mathlib.Core.Bool.{Bool, true}
+use mathlib.Core.Bool.{true}
 use mathlib.Core.List.{List, ◌++◌}
 use lib.IntN.{ℤ}
 use lib.ListN.{length, get_or, take, drop}
@@ -13,20 +13,12 @@ use Rattle.pair_tables.specs.Tables.{marked}
 use Rattle.listing.specs.Changes.{changes}
 use Rattle.listing.specs.Placed.{table_changes, Placed}
 use Rattle.listing.proofs.Lists.{changes-none}
-use Rattle.promises.specs.declared.Firing.{Firing}
-use Rattle.promises.specs.declared.Answer.{Answer}
-use Rattle.promises.specs.declared.Answer.TheVariants as answers
 use Rattle.promises.specs.Standing.{fires}
-use Rattle.promises.specs.Answers.{accepted, firing}
+use Rattle.promises.specs.Answers.{Answer, accepted}
 use Rattle.promises.specs.Promises.{Reported}
 use Rattle.reports.specs.Marks.{Tells}
 use Rattle.session_parts.proofs.Parts.{held-marks}
 use Rattle.reports.proofs.Held.{held-changes}
-
--- an answer by the firing that was read
-pub tells : (xs : List ℕ) (trials n : ℕ) (f : Firing) → firing f ≡ fires (trigger_of xs) (graph_of xs) (marks_of xs)
-    → Tells xs trials n (answers.Accepted record { firing = f; trials = trials; changes = n })
-tells xs trials n f fired = ap (λ (b : Bool). accepted record { fires = b; trials = trials; changes = n }) fired
 
 pub reported : (xs : List ℕ) → in_layout xs ≡ true → (bs : List ℕ) (trials n : ℕ) (room room' : List ℤ) (r : Answer)
     → Placed room 0 (table_changes (get_or xs 0 0) (get_or xs 1 0) bs (take max_nodes (drop marks_at xs))) room' n

@@ -9,7 +9,7 @@ ghost use Rattle.session.specs.Reached.{reached, linked_by};
 ghost use Rattle.session.specs.Layout.{trigger_of, graph_of, in_layout, marks_of};
 ghost use Rattle.pair_tables.specs.Tables.{marked};
 ghost use Rattle.promises.specs.Standing.{fires};
-ghost use Rattle.promises.specs.Answers.{firing, told, changes_told, handed_back};
+ghost use Rattle.promises.specs.Answers.{told, changes_told, handed_back};
 ghost use Rattle.listing.specs.Changes.{changes};
 ghost use Rattle.promises.specs.Promises.{Reported};
 ghost use Rattle.reports.specs.Marks.{Tells};
@@ -49,24 +49,11 @@ pub fn fires_now(session: &[u32]) -> bool
     reached_marked(&session[session::MARKS_AT..end], links_of(session))
 }
 
-// Whether a report says that the trigger fires.
-pub fn says(answer: Firing) -> bool
-    ensures { result ≡ firing answer }
-{
-    match answer {
-        Firing::Fires => true,
-        Firing::Silent => false,
-    }
-}
-
 // How many changes an answer tells of.
 pub fn changes_in(answer: Answer) -> u32
     ensures { result ≡ changes_told (told answer) }
 {
-    match answer {
-        Answer::Accepted(report) => report.changes,
-        Answer::Refused(_) => 0,
-    }
+    answer.map_or(0, |report| report.changes)
 }
 
 // The filled front of the room: nothing for a refused answer, or where the room is shorter than the answer's number of changes.
@@ -74,11 +61,7 @@ pub fn changed_part(changes: &[i32], answer: Answer) -> &[i32]
     ensures { result.now ≡ handed_back changes.now answer }
 {
     let n = changes_in(answer) as usize;
-    if n <= changes.len() {
-        &changes[..n]
-    } else {
-        &changes[..0]
-    }
+    changes.get(..n).unwrap_or(&[])
 }
 
 // The answer with these counts: firing is read from the marks that the session holds.
@@ -86,19 +69,11 @@ pub fn answered(session: &[u32], trials: u32, changes: u32) -> Answer
     requires { in_layout session.now ≡ true }
     ensures { Tells session.now trials changes result }
 {
-    if fires_now(session) {
-        Answer::Accepted(Report {
-            firing: Firing::Fires,
-            trials,
-            changes,
-        })
-    } else {
-        Answer::Accepted(Report {
-            firing: Firing::Silent,
-            trials,
-            changes,
-        })
-    }
+    Ok(Report {
+        firing: Firing::from(fires_now(session)),
+        trials,
+        changes,
+    })
 }
 
 // Writes the changes from the marks of the table to those that the session holds, and makes the answer.

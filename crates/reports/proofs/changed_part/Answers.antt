@@ -1,21 +1,25 @@
--- `changed_part` meets its contract.
-use borrow.Author.Rules.{rules}
+-- What `get` finds is the front of the room, and nothing stands for what it does not find.
 use borrow.Author.Tests.{le-leb, lt-leb}
-use mathlib.Core.Path.{sym}
-use lib.Seq.{length-take-le}
+use native.Mathlib.Omega.{arith}
+use Prim.Native.Nat.{ℕ, ◌-◌}
+use mathlib.Core.Path.{◌≡◌, refl}
+use mathlib.Core.Bool.{cond}
+use mathlib.Core.List.{List, []}
+use lib.Dec.{leb}
+use lib.IntN.{ℤ}
+use lib.ListN.{length, take}
+use Rattle.std.specs.Prelude.{Option, Some, None, unwrap_or}
+use Rattle.std.specs.Slice.{IsGetRangeResult}
+use denote.Bor.{Bor}
 use Rattle.promises.specs.Answers.{handed_back}
 use Rattle.reports.proofs.changed_part.Goals as goal
 
-pub slice_bounds-result-end : goal.slice_bounds-result-end
-slice_bounds-result-end c =
-    sym (length-take-le _ _ (search rules))
+front : (room : List ℤ) (n : ℕ) (r : Option (Bor (List ℤ))) (e : Bor (List ℤ)) → e.now ≡ [] → IsGetRangeResult room 0 n r
+    → (unwrap_or r e).now ≡ cond (leb n (length room)) (take n room) []
+front room n None e none p = rw (lt-leb n (length room) (omega (arith, p.0))) none
+front room n (Some part) e none p = let from : n - 0 ≡ n = omega arith in rw (le-leb n (length room) (omega (arith, p.0)), ← from) p.0.2
 
-pub returns-then-n-changes : goal.returns-then-n-changes
+pub returns : goal.returns
 unfolding handed_back
-returns-then-n-changes c =
-    rw (← c.changes_in-n.ensures) (simp (le-leb _ _ c.if-n-changes.true))
-
-pub returns-else-n-changes : goal.returns-else-n-changes
-unfolding handed_back
-returns-else-n-changes c =
-    rw (← c.changes_in-n.ensures) (simp (lt-leb _ _ c.if-n-changes.false))
+returns c =
+    rw (← c.changes_in-n.ensures, c.unwrap_or.ensures) (front c.args.changes.now c.changes_in-n.result c.get.result _ refl c.get.ensures.lookup)
