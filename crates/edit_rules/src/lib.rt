@@ -2,51 +2,56 @@
 #![tactic(auto)]
 
 ghost use Rattle.std.specs.Prelude.{◌≡◌};
+ghost use Rattle.promises.specs.Answers.{first_broken};
 ghost use Rattle.promises.specs.Rules.{edit_rules, verdict};
 ghost use Rattle.editing.specs.Steps.{kind_of, shared_rules};
 
 use edges::held::edge_in;
+use promises::Refusal;
 use reports::too_short;
 
-// The number of the first rule broken of those that both edits share, and 0 where none is.
-pub fn shared_rule(session: &[u32], room: usize, start: u32, end: u32) -> u8
-    ensures { result ≡ verdict (shared_rules session.now room start end) }
+// The first rule broken of those that both edits share, if one is.
+pub fn shared_rule(session: &[u32], room: usize, start: u32, end: u32) -> Result<(), Refusal>
+    ensures { first_broken result ≡ verdict (shared_rules session.now room start end) }
 {
     if too_short(session.len(), room) {
-        return 3;
+        return Err(Refusal::MemoryShort);
     }
     if !layout_test::in_layout(session) {
-        return 10;
+        return Err(Refusal::NotInLayout);
     }
     if session[1] <= start {
-        return 11;
+        return Err(Refusal::NameWrong);
     }
     if session[1] <= end {
-        return 11;
+        return Err(Refusal::NameWrong);
     }
-    0
+    Ok(())
 }
 
-// The number of the first rule that an edit breaks, and 0 where it breaks none.
-pub fn edit_rule(session: &[u32], room: usize, inserts: bool, start: u32, end: u32) -> u8
-    ensures { result ≡ verdict (edit_rules (kind_of inserts) session.now room start end) }
+// The first rule that an edit breaks, if it breaks one.
+pub fn edit_rule(
+    session: &[u32],
+    room: usize,
+    inserts: bool,
+    start: u32,
+    end: u32,
+) -> Result<(), Refusal>
+    ensures { first_broken result ≡ verdict (edit_rules (kind_of inserts) session.now room start end) }
 {
-    let broken = shared_rule(session, room, start, end);
-    if broken != 0 {
-        return broken;
-    }
+    shared_rule(session, room, start, end)?;
     let present = edge_in(session, start, end);
     if inserts {
         if present {
-            return 12;
+            return Err(Refusal::EdgePresent);
         }
         if session::MAX_EDGES as u32 <= session[2] {
-            return 13;
+            return Err(Refusal::EdgesFull);
         }
-        return 0;
+        return Ok(());
     }
     if !present {
-        return 14;
+        return Err(Refusal::EdgeAbsent);
     }
-    0
+    Ok(())
 }

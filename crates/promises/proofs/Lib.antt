@@ -8,6 +8,7 @@ pub mod Trials
 pub mod Handed
 pub mod Chains
 pub mod Verdicts
+pub mod Refusals
 pub mod Passed
 pub mod Loads
 pub mod Changed
