@@ -11,8 +11,7 @@ use Rattle.session.specs.Limits.{max_states, max_nodes}
 use Rattle.session.specs.Trigger.{states, nodes}
 use Rattle.session.specs.Layout.{trigger_of, graph_of, marks_of}
 use Rattle.session.proofs.Decoded.{layout-facts}
-use Rattle.promises.specs.declared.Answer.{Answer}
-use Rattle.promises.specs.Answers.{outcome, told}
+use Rattle.promises.specs.Answers.{Answer, outcome, told}
 use Rattle.promises.specs.Standing.{fires}
 use Rattle.promises.specs.Rules.{Rule, Kind, insertion, deletion, Given, edited, verdict, load_rules, edit_rules, question_rules, pair_rules}
 use Rattle.promises.specs.Promises.{Loaded, Edited, Matches, Fires}

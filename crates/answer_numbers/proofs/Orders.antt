@@ -13,7 +13,9 @@ use Rattle.session.specs.Layout.{section, trigger_of}
 use Rattle.session.proofs.Tables.{table_same, get_or-section}
 use Rattle.listing.specs.Order.{order}
 use Rattle.promises.specs.declared.StateOrder.{StateOrder}
-use Rattle.promises.specs.Answers.{accepted, refused, outcome, told_order}
+use Rattle.std.specs.Prelude.{Ok, Err}
+use Rattle.promises.specs.declared.Refusal.{Refusal}
+use Rattle.promises.specs.Answers.{OrderAnswer, accepted, refused, outcome, number, told_order, places_told}
 use Rattle.promises.specs.Rules.{verdict, question_rules}
 use Rattle.promises.specs.Promises.{Ordered}
 use Rattle.promises.proofs.Verdicts.{verdict_skip, row-broken}
@@ -40,30 +42,30 @@ module _ (s places : List ℕ) where
         written = ap (λ (v : ℕ). cond (eqb v 0) (section max_states (order (trigger_of s)) ++ drop max_states places) places) e;
       }
 
-  module _ (long : max_states ≤ length places) (r : StateOrder) (p : Ordered s r) (w : ℕ) (e : w ≡ order_number r.answer) where
+  module _ (long : max_states ≤ length places) (r : OrderAnswer) (p : Ordered s r) (w : ℕ) (e : w ≡ order_number r) where
     abbrev asked : ℕ
     asked = verdict (question_rules s [])
 
     same : verdict (order_rules s places) ≡ asked
     same = verdict_skip 3 (ltb (length places) max_states) (question_rules s []) (le-ltb (length places) max_states long)
 
-    number : w ≡ packed_count (outcome (verdict (order_rules s places)) (states (trigger_of s)))
-    number = e ∙ ap packed_count p.answer ∙ sym (ap (λ (v : ℕ). packed_count (outcome v (states (trigger_of s)))) same)
+    numbered : w ≡ packed_count (outcome (verdict (order_rules s places)) (states (trigger_of s)))
+    numbered = e ∙ ap packed_count p.answer ∙ sym (ap (λ (v : ℕ). packed_count (outcome v (states (trigger_of s)))) same)
 
-    pub order-listed : (n : ℕ) (places' : List ℕ) → told_order r.answer ≡ accepted n → places' ≡ section max_states r.states ++ drop max_states places
+    pub order-listed : (o : StateOrder) (places' : List ℕ) → r ≡ Ok o → places' ≡ section max_states o.states ++ drop max_states places
         → OrderWritten s places w places'
-    order-listed n places' a h =
-        let z : asked ≡ 0 = accepted-passed asked (states (trigger_of s)) n (sym p.answer ∙ a) in
+    order-listed o places' a h =
+        let z : asked ≡ 0 = accepted-passed asked (states (trigger_of s)) o.count (sym p.answer ∙ ap told_order a) in
         record {
-          answer = number;
+          answer = numbered;
           written =
               rw (same, z)
-              (h ∙ ap (λ (l : List ℕ). section max_states l ++ drop max_states places) p.states
+              (h ∙ ap (λ (l : List ℕ). section max_states l ++ drop max_states places) (sym (ap places_told a) ∙ p.states)
               ∙ ap (λ (l : List ℕ). l ++ drop max_states places) (section_twice max_states (cond (eqb asked 0) (order (trigger_of s)) []))
               ∙ ap (λ (v : ℕ). section max_states (cond (eqb v 0) (order (trigger_of s)) []) ++ drop max_states places) z);
         }
 
-    pub order-refused : (n : ℕ) → told_order r.answer ≡ refused n → OrderWritten s places w places
-    order-refused n a =
-        let bad : asked ≡ 0 → ⊥ = refused-broken asked n (states (trigger_of s)) (sym p.answer ∙ a) in
-        record { answer = number; written = rw (same, ne_eqb asked 0 bad) refl }
+    pub order-refused : (rule : Refusal) → r ≡ Err rule → OrderWritten s places w places
+    order-refused rule a =
+        let bad : asked ≡ 0 → ⊥ = refused-broken asked (number rule) (states (trigger_of s)) (sym p.answer ∙ ap told_order a) in
+        record { answer = numbered; written = rw (same, ne_eqb asked 0 bad) refl }

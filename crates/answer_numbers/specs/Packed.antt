@@ -5,11 +5,7 @@ use Rattle.session.specs.Limits.{max_states}
 use Rattle.session.specs.Trigger.{states}
 use Rattle.session.specs.Layout.{section, trigger_of}
 use Rattle.listing.specs.Order.{order}
-use Rattle.promises.specs.declared.Answer.{Answer}
-use Rattle.promises.specs.declared.Standing.{Standing}
-use Rattle.promises.specs.declared.FiringAnswer.{FiringAnswer}
-use Rattle.promises.specs.declared.OrderAnswer.{OrderAnswer}
-use Rattle.promises.specs.Answers.{Outcome, accepted, refused, outcome, Summary, told, told_standing, told_firing, told_order}
+use Rattle.promises.specs.Answers.{Answer, StandingAnswer, FiringAnswer, OrderAnswer, Outcome, accepted, refused, outcome, Summary, told, told_standing, told_firing, told_order}
 use Rattle.promises.specs.Rules.{Rule, rule, verdict, question_rules}
 
 -- a rule has 8 bits
@@ -107,7 +103,7 @@ abbrev pub answer_number : Answer → ℕ
 answer_number a = packed (told a)
 
 -- to the question whether a state stands at a node
-abbrev pub standing_number : Standing → ℕ
+abbrev pub standing_number : StandingAnswer → ℕ
 standing_number a = packed_yes (told_standing a)
 
 -- to the question whether the trigger fires

@@ -4,10 +4,10 @@
 ghost use Rattle.std.specs.Prelude.{◌≡◌, ◌++◌, ◌≤◌, length, drop};
 ghost use Rattle.session.specs.Limits.{max_states};
 ghost use Rattle.session.specs.Layout.{section};
+ghost use Rattle.promises.specs.Answers.{number};
 ghost use Rattle.answer_numbers.specs.Packed as p;
 
-use promises::{Answer, FiringAnswer, OrderAnswer, Standing};
-use reports::says;
+use promises::{Answer, Firing, Refusal, Standing, StateOrder};
 
 // A count has 24 bits; a yes, the trials and the changes begin at bits 8, 16 and 40.
 pub const COUNT_SPAN: u32 = 16777216;
@@ -26,48 +26,47 @@ pub fn fields(flag: bool, trials: u32, changes: u32) -> u64
     bit + ((trials % COUNT_SPAN) as u64 * TRIALS_AT + (changes % COUNT_SPAN) as u64 * CHANGES_AT)
 }
 
+// The number of a refused answer: that of the rule.
+fn rule_number(rule: Refusal) -> u64
+    ensures { result ≡ number rule }
+{
+    u64::from(u8::from(rule))
+}
+
 // The number of the answer to a load or an edit.
 pub fn answer_number(answer: Answer) -> u64
     ensures { result ≡ p.answer_number answer }
 {
-    match answer {
-        Answer::Accepted(report) => {
-            let firing = report.firing;
-            fields(says(firing), report.trials, report.changes)
-        }
-        Answer::Refused(broken) => broken as u64,
-    }
+    answer.map_or_else(rule_number, |report| {
+        fields(bool::from(report.firing), report.trials, report.changes)
+    })
 }
 
 // The number of the answer whether a state stands at a node.
-pub fn standing_number(answer: Standing) -> u64
+pub fn standing_number(answer: Result<Standing, Refusal>) -> u64
     ensures { result ≡ p.standing_number answer }
 {
-    match answer {
-        Standing::Stands => fields(true, 0, 0),
-        Standing::Absent => fields(false, 0, 0),
-        Standing::Refused(rule) => rule as u64,
-    }
+    answer.map_or_else(
+        rule_number,
+        |standing| fields(standing == Standing::Stands, 0, 0),
+    )
 }
 
 // The number of the answer whether the trigger fires.
-pub fn firing_number(answer: FiringAnswer) -> u64
+pub fn firing_number(answer: Result<Firing, Refusal>) -> u64
     ensures { result ≡ p.firing_number answer }
 {
-    match answer {
-        FiringAnswer::Now(firing) => fields(says(firing), 0, 0),
-        FiringAnswer::Refused(rule) => rule as u64,
-    }
+    answer.map_or_else(rule_number, |firing| fields(bool::from(firing), 0, 0))
 }
 
 // The number of the answer to an order.
-pub fn order_number(answer: OrderAnswer) -> u64
+pub fn order_number(answer: Result<StateOrder, Refusal>) -> u64
     ensures { result ≡ p.order_number answer }
 {
-    match answer {
-        OrderAnswer::Listed(count) => fields(false, 0, count as u32),
-        OrderAnswer::Refused(rule) => rule as u64,
-    }
+    answer.map_or_else(
+        rule_number,
+        |order| fields(false, 0, u32::from(order.count)),
+    )
 }
 
 // Copies the places of an order to the front.

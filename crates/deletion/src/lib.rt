@@ -8,11 +8,11 @@ ghost use Rattle.session.specs.Layout.{trigger_of, graph_of, marks_of, in_layout
 ghost use Rattle.pair_tables.specs.Tables.{marked};
 ghost use Rattle.promises.specs.Rules.{deletion, graph_rules, verdict};
 ghost use Rattle.promises.specs.Promises.{Done, ceased};
-ghost use Rattle.editing.specs.Steps.{steady_at, Ceased, Saved};
+ghost use Rattle.editing.specs.Steps.{steady_at, Ceased, Saved, calm, tried};
 
 use edge_indexes::edges_from;
 use edges::held::remove_edge;
-use editing::{Effect, refine_at};
+use editing::refine_at;
 use pair_tables::{pairs_in, take_away};
 use refinement::unmet;
 use session_parts::{edges_of, links_of, marks_of, store_marks};
@@ -54,17 +54,14 @@ pub fn ceased_pairs(session: &[u32], table: &[u32]) -> u32
 }
 
 // Deletes an edge that breaks no rule, and corrects the marks. Before they change, they are saved.
-pub fn delete_edit(session: &mut [u32], start: u32, end: u32, before: &mut [u32]) -> Effect
+pub fn delete_edit(session: &mut [u32], start: u32, end: u32, before: &mut [u32]) -> Option<u32>
     requires { (in_layout session.old ≡ true) × (verdict (graph_rules deletion (graph_of session.old) start end) ≡ 0) × (length before.old ≡ max_nodes) }
-    ensures { Done deletion (trigger_of session.old) (graph_of session.old) (marks_of session.old) (marks_of session.new) start end result.trials session.old session.new × Saved session.old session.new before.new result.calm }
+    ensures { Done deletion (trigger_of session.old) (graph_of session.old) (marks_of session.old) (marks_of session.new) start end (tried result) session.old session.new × Saved session.old session.new before.new (calm result) }
 {
     remove_edge(session, start, end);
     let unmoved = steady(session, start);
     if unmoved {
-        return Effect {
-            trials: 0,
-            calm: true,
-        };
+        return None;
     }
     sections::copy_words(before, marks_of(session));
     let mut table = [0u32; session::MAX_NODES];
@@ -72,8 +69,5 @@ pub fn delete_edit(session: &mut [u32], start: u32, end: u32, before: &mut [u32]
     cease(session, start, &mut table);
     let trials = ceased_pairs(session, &table);
     store_marks(session, &table);
-    Effect {
-        trials,
-        calm: false,
-    }
+    Some(trials)
 }

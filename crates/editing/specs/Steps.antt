@@ -1,5 +1,5 @@
 -- What the steps of an edit leave, on a session that holds a trigger t, a graph g with the edge put in or taken out already, and marks m.
-use Rattle.std.specs.Prelude.{ℕ, ◌*◌, ◌/◌, ◌%◌, ◌<◌, ◌≡◌, Bool, true, false, not, ◌&&◌, ◌||◌, List, [], ◌∷◌, ltb, length, get_or}
+use Rattle.std.specs.Prelude.{ℕ, ◌*◌, ◌/◌, ◌%◌, ◌<◌, ◌≡◌, Bool, true, false, not, ◌&&◌, ◌||◌, List, [], ◌∷◌, Option, Some, None, ltb, length, get_or}
 use Rattle.simulation.specs.Sets.{Set, In, none, union, all_below, any_below, count}
 use Rattle.simulation.specs.System.{supported, refined}
 use Rattle.simulation.specs.Pattern.{pair, system}
@@ -79,6 +79,15 @@ pub record Ceased (xs : List ℕ) (a : ℕ) (ts : List ℕ) : Type 0 where
 pub record Saved (xs xs' bs : List ℕ) (calm : Bool) : Type 0 where
   pub same : calm ≡ true → marks_of xs' ≡ marks_of xs
   pub saved : calm ≡ false → marked bs ≡ marks_of xs
+
+-- what an edit proper tells: how many pairs it tried where it corrected the marks, and nothing where it left them alone
+abbrev pub tried : Option ℕ → ℕ
+tried None = 0
+tried (Some n) = n
+
+abbrev pub calm : Option ℕ → Bool
+calm None = true
+calm (Some n) = false
 
 -- the kind of an edit, as the code tells it
 abbrev pub kind_of : Bool → Kind

@@ -13,13 +13,6 @@ use refinement::refine_few;
 use session_parts::{edges_of, links_of};
 use worklist::{WAITING_WORDS, put_in};
 
-// What an edit proper tells beside what it leaves: how many pairs were tried, and whether it left the marks alone.
-#[derive(Clone, Copy)]
-pub struct Effect {
-    pub trials: u32,
-    pub calm: bool,
-}
-
 // Refines a table beside a settled one, from one node.
 pub fn refine_at(session: &[u32], node: u32, settled: &[u32], table: &mut [u32])
     requires { (in_layout session.now ≡ true) × (node < nodes (graph_of session.now)) × (length settled.now ≡ max_nodes) × (length table.old ≡ max_nodes) × Inside session.now table.old }

@@ -6,13 +6,12 @@ ghost use Rattle.bits.specs.Word.{members};
 ghost use Rattle.session.specs.Limits.{max_nodes};
 ghost use Rattle.session.specs.Trigger.{nodes};
 ghost use Rattle.session.specs.Layout.{trigger_of, graph_of, in_layout, marks_of};
-ghost use Rattle.editing.specs.Steps.{Begun, seeds_of, Saved};
+ghost use Rattle.editing.specs.Steps.{Begun, seeds_of, Saved, calm, tried};
 ghost use Rattle.promises.specs.Rules.{insertion, graph_rules, verdict};
 ghost use Rattle.promises.specs.Promises.{Done};
 
 use edge_indexes::index;
 use edges::held::insert_edge;
-use editing::Effect;
 use links::linking;
 use pair_tables::{pairs_in, put_together};
 use session_parts::{edges_of, links_of, marks_of, store_marks};
@@ -51,26 +50,20 @@ pub fn try_out(session: &[u32], start: u32, seeds: u32, table: &mut [u32]) -> u3
 }
 
 // Inserts an edge that breaks no rule, and corrects the marks. Before they change, they are saved.
-pub fn insert_edit(session: &mut [u32], start: u32, end: u32, before: &mut [u32]) -> Effect
+pub fn insert_edit(session: &mut [u32], start: u32, end: u32, before: &mut [u32]) -> Option<u32>
     requires { (in_layout session.old ≡ true) × (verdict (graph_rules insertion (graph_of session.old) start end) ≡ 0) × (length before.old ≡ max_nodes) }
-    ensures { Done insertion (trigger_of session.old) (graph_of session.old) (marks_of session.old) (marks_of session.new) start end result.trials session.old session.new × Saved session.old session.new before.new result.calm }
+    ensures { Done insertion (trigger_of session.old) (graph_of session.old) (marks_of session.old) (marks_of session.new) start end (tried result) session.old session.new × Saved session.old session.new before.new (calm result) }
 {
     insert_edge(session, start, end);
     let seeds = seeds_at(session, start, end);
     let fruitless = seeds == 0;
     if fruitless {
-        return Effect {
-            trials: 0,
-            calm: true,
-        };
+        return None;
     }
     sections::copy_words(before, marks_of(session));
     let mut table = [0u32; session::MAX_NODES];
     let trials = try_out(session, start, seeds, &mut table);
     put_together(&mut table, marks_of(session));
     store_marks(session, &table);
-    Effect {
-        trials,
-        calm: false,
-    }
+    Some(trials)
 }

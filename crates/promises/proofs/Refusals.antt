@@ -1,7 +1,6 @@
--- A refusal names a rule: its number is no 0, and so is the verdict that it tells.
-use Prim.Native.Nat.{ℕ}
+-- A refusal names a rule: its number is no 0.
 use native.Mathlib.Omega.{arith}
-use mathlib.Core.Path.{◌≡◌, ◌∙◌}
+use mathlib.Core.Path.{◌≡◌}
 use Rattle.promises.specs.declared.Refusal.{Refusal}
 use Rattle.promises.specs.declared.Refusal.TheVariants as R
 use Rattle.promises.specs.Answers.{number}
@@ -21,6 +20,3 @@ number-some R.NameWrong e = omega (arith, e)
 number-some R.EdgePresent e = omega (arith, e)
 number-some R.EdgesFull e = omega (arith, e)
 number-some R.EdgeAbsent e = omega (arith, e)
-
-pub verdict-some : (rule : Refusal) (v : ℕ) → number rule ≡ v → v ≡ 0 → ⊥
-verdict-some rule v e z = number-some rule (e ∙ z)

@@ -9,7 +9,7 @@ ghost use Rattle.promises.specs.Promises.{Loaded, Inserted, Deleted, Matches, Fi
 ghost use Rattle.answer_numbers.specs.Packed.{Packs, answer_number, standing_number, firing_number, OrderWritten};
 
 use answer_numbers::{answer_number, fill_front, firing_number, order_number, standing_number};
-use promises::OrderAnswer;
+use promises::Refusal;
 
 // How many words a session has.
 #[unsafe(no_mangle)]
@@ -96,16 +96,12 @@ pub extern "C" fn trigger_order(session: &[u32], states: &mut [u8]) -> u64
 {
     let short = states.len() < session::MAX_STATES;
     if short {
-        return 3;
+        return order_number(Err(Refusal::MemoryShort));
     }
-    let found = matching::order(session);
-    let answer = found.answer;
-    let listed = found.states;
+    let answer = matching::order(session);
     match answer {
-        OrderAnswer::Listed(_) => {
-            fill_front(states, &listed);
-            order_number(answer)
-        }
-        OrderAnswer::Refused(_) => order_number(answer),
+        Ok(found) => fill_front(states, &found.states),
+        Err(_) => {}
     }
+    order_number(answer)
 }
