@@ -10,19 +10,20 @@ use lib.ListN.{length, get_or, take, drop, length-append, length-take, length-dr
 use lib.Seq.{take_all}
 use borrow.Author.Tests.{ltb-false, lt-ltb, le-ltb}
 use Rattle.simulation.proofs.Sets.{clash}
+use Rattle.std.specs.Prelude.{Ok, Err}
 use Rattle.session.specs.Limits.{max_changes}
-use Rattle.promises.specs.Answers.{accepted, refused}
+use Rattle.promises.specs.declared.Refusal.{Refusal}
+use Rattle.promises.specs.Answers.{number, accepted, refused}
 use Rattle.promises.specs.Rules.{verdict}
 use Rattle.promises.proofs.Verdicts.{accepts-or, verdict_pass, verdict_skip, row-passed, row-broken}
 use Rattle.frames.specs.declared.Progress.{Progress}
-use Rattle.frames.specs.declared.Taken.TheVariants as T
 use Rattle.frames.specs.Frames.{Frame, state, node, run, edit, walk, nothing, frame_of}
 use Rattle.frames.specs.Lines.{line_ends, line_in, front_size, Keeps, Gathers}
 use Rattle.frames.specs.Machine.{Memory, memory, output_size, memory_rules, Prints, Before, After, Answers, Stepped}
 use Rattle.frames.specs.Program.{Fresh}
-use Rattle.frames.specs.Blocks.{input_rules, Point, point, output_after, with_output, GoesOn, Passes, stops, begins, answers, Refuses, BlockTaken, InputEnded}
+use Rattle.frames.specs.Blocks.{input_rules, Reached, written_of, at_of, Point, point, output_after, with_output, GoesOn, Passes, stops, begins, answers, BlockTaken, InputEnded}
 use Rattle.frames.proofs.Fronts.{keeps-long, keeps_same}
-use Rattle.frames.proofs.Takes.{Counted, Passed, rules-passed, passed-rules, answers-counted, taken-line}
+use Rattle.frames.proofs.Takes.{number-some, Counted, Passed, rules-passed, passed-rules, answers-counted, taken-line}
 
 -- ---- the rules of the lent memory
 
@@ -56,7 +57,7 @@ fresh-passed m front f room out long =
     long
 
 -- a memory that a line was answered in breaks no rule of its own
-pub unrefused : (m : Memory) (line : List ℕ) (n : ℕ) (left : Memory) → Stepped m line (T.Written n) left → verdict (memory_rules m) ≡ 0
+pub unrefused : (m : Memory) (line : List ℕ) (n : ℕ) (left : Memory) → Stepped m line (Ok n) left → verdict (memory_rules m) ≡ 0
 unrefused m line n left s =
     ⊎_elim (λ ok. ok)
     (λ bad.
@@ -65,7 +66,7 @@ unrefused m line n left s =
     absurd (omega arith))
     (accepts-or (verdict (memory_rules m)))
 
-stepped_answers : (m : Memory) (line : List ℕ) (n : ℕ) (left : Memory) → Stepped m line (T.Written n) left → Answers m line n left
+stepped_answers : (m : Memory) (line : List ℕ) (n : ℕ) (left : Memory) → Stepped m line (Ok n) left → Answers m line n left
 stepped_answers m line n left s =
     let a = s.answers (unrefused m line n left s) in
     let e : accepted n ≡ accepted a.0 = a.1 in
@@ -318,15 +319,15 @@ module _ (block : List ℕ) where
       pass_counted w (answers-counted mine left n h.ready h.counted (take begun' front') (stepped_answers mine (take begun' front') n left s))
 
 -- what the caller of a block learns where the memory breaks no rule
-module _ (m : Memory) (front : List ℕ) (begun : ℕ) (block : List ℕ) (r : Progress) (m' : Memory) (front' : List ℕ)
+module _ (m : Memory) (front : List ℕ) (begun : ℕ) (block : List ℕ) (r : Reached) (m' : Memory) (front' : List ℕ)
     (t : BlockTaken m front begun block r m' front') (ok : verdict (input_rules m front) ≡ 0) where
-  pub block_at : r.at ≤ length block
+  pub block_at : at_of r ≤ length block
   block_at = (pass_at block (t.passes ok).1 (omega arith)).1
 
-  pub block_goes : 0 < length block → 0 < r.at
+  pub block_goes : 0 < length block → 0 < at_of r
   block_goes l = pass_goes block (t.passes ok).1 (l, (input_passed m front ok).0.out)
 
-  pub block_written : r.written ≤ length m'.out
+  pub block_written : written_of r ≤ length m'.out
   block_written = pass_written block (t.passes ok).1 (omega arith)
 
   -- and it breaks none after the call
@@ -336,13 +337,13 @@ module _ (m : Memory) (front : List ℕ) (begun : ℕ) (block : List ℕ) (r : P
       passed_input m' front' (still_passed m m' i.0 same (pass_counted block (t.passes ok).1 i.0.counted)) (omega (arith, long, i.1))
 
 -- and of the end
-pub end-written : (m : Memory) (front : List ℕ) (begun : ℕ) (r : Progress) (m' : Memory) → InputEnded m front begun r m'
-    → verdict (input_rules m front) ≡ 0 → r.written ≤ length m'.out
+pub end-written : (m : Memory) (front : List ℕ) (begun : ℕ) (r : Reached) (m' : Memory) → InputEnded m front begun r m'
+    → verdict (input_rules m front) ≡ 0 → written_of r ≤ length m'.out
 end-written m front begun r m' t ok =
     ⊎_elim
     (λ z. omega (arith, (t.none ok z).0))
     (λ some.
-    answers-fit m (take begun front) r.written m' (input_passed m front ok).0.counted (t.line ok (omega (arith, some))))
+    answers-fit m (take begun front) (written_of r) m' (input_passed m front ok).0.counted (t.line ok (omega (arith, some))))
     (accepts-or begun)
 
 -- ---- the promises, return by return
@@ -354,44 +355,41 @@ module _ (m : Memory) (front : List ℕ) where
   pub rule-others : (k : ℕ) → front_size ≤ length front → k ≡ verdict (memory_rules m) → k ≡ verdict (input_rules m front)
   rule-others k l e = row-passed 3 (ltb (length front) front_size) false (memory_rules m) (sym (le-ltb (length front) front_size l)) k refl e
 
-  pub unbroken_input : (k : ℕ) → k ≡ verdict (input_rules m front) → k ≡ 0 → verdict (input_rules m front) ≡ 0
-  unbroken_input k k-is fine = sym k-is ∙ fine
-
-  module _ (begun k : ℕ) (r : Progress) (k-is : k ≡ verdict (input_rules m front)) where
-    module _ (some : k ≡ 0 → ⊥) (told : Refuses k begun r) where
-      told-verdict : Refuses (verdict (input_rules m front)) begun r
-      told-verdict = (told.0 ∙ k-is, told.1, told.2, told.3)
-
-      pub block_refused : (block : List ℕ) → BlockTaken m front begun block r m front
-      block_refused block = record { refuses = λ bad. (told-verdict, refl, refl); passes = λ ok. absurd (some (k-is ∙ ok)) }
-
-      pub end_refused : InputEnded m front begun r m
-      end_refused = record {
-        refuses = λ bad. (told-verdict, refl);
-        told = λ ok. absurd (some (k-is ∙ ok));
-        none = λ ok z. absurd (some (k-is ∙ ok));
-        line = λ ok l. absurd (some (k-is ∙ ok));
+  module _ (begun : ℕ) where
+    module _ (rule : Refusal) (rule-is : number rule ≡ verdict (input_rules m front)) where
+      pub block_refused : (block : List ℕ) → BlockTaken m front begun block (Err rule) m front
+      block_refused block = record {
+        refuses = λ bad. ((rule-is, refl, refl, refl), refl, refl);
+        passes = λ ok. absurd (number-some rule (rule-is ∙ ok));
       }
 
-    module _ (fine : k ≡ 0) where
-      pub block-passed-over : (block : List ℕ) (m' : Memory) (front' : List ℕ)
-          → (r.rule ≡ 0) × Passes block (point front begun 0 0 m) (point front' r.begun r.at r.written m')
-          → BlockTaken m front begun block r m' front'
-      block-passed-over block m' front' w = record { refuses = λ bad. absurd (bad (unbroken_input k k-is fine)); passes = λ ok. w }
+      pub end_refused : InputEnded m front begun (Err rule) m
+      end_refused = record {
+        refuses = λ bad. ((rule-is, refl, refl, refl), refl);
+        told = λ ok. absurd (number-some rule (rule-is ∙ ok));
+        none = λ ok z. absurd (number-some rule (rule-is ∙ ok));
+        line = λ ok l. absurd (number-some rule (rule-is ∙ ok));
+      }
 
-      pub end_none : begun ≡ 0 → Refuses 0 0 r → InputEnded m front begun r m
-      end_none z told = record {
-        refuses = λ bad. absurd (bad (unbroken_input k k-is fine));
-        told = λ ok. (told.0, told.2, told.3);
-        none = λ ok e. (told.1, refl);
+    module _ (fine : verdict (input_rules m front) ≡ 0) where
+      pub block-passed-over : (block : List ℕ) (p : Progress) (m' : Memory) (front' : List ℕ)
+          → Passes block (point front begun 0 0 m) (point front' p.begun p.at p.written m')
+          → BlockTaken m front begun block (Ok p) m' front'
+      block-passed-over block p m' front' w = record { refuses = λ bad. absurd (bad fine); passes = λ ok. (refl, w) }
+
+      pub end_none : begun ≡ 0 → InputEnded m front begun (Ok record { written = 0; at = 0; begun = 0 }) m
+      end_none z = record {
+        refuses = λ bad. absurd (bad fine);
+        told = λ ok. (refl, refl, refl);
+        none = λ ok e. (refl, refl);
         line = λ ok l. absurd (omega (arith, l, z));
       }
 
-      pub end_line : (used : ℕ) (m' : Memory) → (begun ≡ 0 → ⊥) → Keeps front begun [] front used → (r.rule ≡ 0) × (r.at ≡ 0) × (r.begun ≡ 0)
-          → Answers m (take used front) r.written m' → InputEnded m front begun r m'
-      end_line used m' some keeps told a = record {
-        refuses = λ bad. absurd (bad (unbroken_input k k-is fine));
-        told = λ ok. told;
+      pub end_line : (used n : ℕ) (m' : Memory) → (begun ≡ 0 → ⊥) → Keeps front begun [] front used → Answers m (take used front) n m'
+          → InputEnded m front begun (Ok record { written = n; at = 0; begun = 0 }) m'
+      end_line used n m' some keeps a = record {
+        refuses = λ bad. absurd (bad fine);
+        told = λ ok. (refl, refl, refl);
         none = λ ok z. absurd (some z);
-        line = λ ok l. subst (λ (w : List ℕ). Answers m w r.written m') (keeps_same front begun used keeps) a;
+        line = λ ok l. subst (λ (w : List ℕ). Answers m w n m') (keeps_same front begun used keeps) a;
       }
