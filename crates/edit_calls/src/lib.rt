@@ -13,6 +13,7 @@ use edit_rules::edit_rule;
 use insertion::insert_edit;
 use promises::Answer;
 use reports::{answered, report};
+use session_parts::Held;
 
 // Inserts or deletes an edge that breaks no rule, and corrects the marks. Before they change, they are saved.
 pub fn edit_proper(
@@ -39,8 +40,8 @@ pub fn edit(session: &mut [u32], inserts: bool, start: u32, end: u32, changes: &
     edit_rule(session, changes.len(), inserts, start, end)?;
     let mut before = [0u32; session::MAX_NODES];
     match edit_proper(session, inserts, start, end, &mut before) {
-        Some(trials) => report(session, &before, trials, changes),
-        None => answered(session, 0, 0),
+        Some(trials) => report(&Held::of(session), &before, trials, changes),
+        None => answered(&Held::of(session), 0, 0),
     }
 }
 

@@ -47,16 +47,14 @@ pub edit_proper-requires : goal.edit_proper-requires
 edit_proper-requires c =
     let w = held (goal.at.edit_proper-requires c).In_ok-edit_rule in (w.0, w.2, refl)
 
-pub answered-requires : goal.answered-requires
-answered-requires c =
-    left-layout (goal.at.answered-requires c).After-edit_proper
+pub of-requires : goal.of-requires
+of-requires c = left-layout (goal.at.of-requires c).After-edit_proper
+
+pub of-requires-in-None : goal.of-requires-in-None
+of-requires-in-None c = left-layout (goal.at.of-requires-in-None c).After-edit_proper
 
 pub report-requires : goal.report-requires
-report-requires c = (
-  left-layout (goal.at.report-requires c).After-edit_proper,
-  search rules,
-  (held (goal.at.report-requires c).In_ok-edit_rule).1,
-)
+report-requires c = (search rules, (held (goal.at.report-requires c).In_ok-edit_rule).1)
 
 pub returns-in-None : goal.returns-in-None
 returns-in-None c =
@@ -69,7 +67,7 @@ returns-in-None c =
       accepts = λ ok.
           called-carried (kind_of a.inserts) a.session.now a.start a.end w.0 w.2 0 xs' e.0
           (marks_of xs') (e.1.same refl) _ _ _
-          (reported-same xs' 0 a.changes.now c.answered.result c.answered.ensures);
+          (reported-same xs' 0 a.changes.now c.answered.result (rw c.of-in-None.ensures at c.answered.ensures));
     }
 
 pub returns-in-Some : goal.returns-in-Some
@@ -81,5 +79,5 @@ returns-in-Some c =
       refuses = λ bad. absurd (bad (passed (goal.at.returns-in-Some c).In_ok-edit_rule));
       accepts = λ ok.
           called-carried (kind_of a.inserts) a.session.now a.start a.end w.0 w.2 c.in-Some.trials c.edit_proper.new.session e.0
-          (marked c.edit_proper.new.before) (e.1.saved refl) _ _ _ c.report.ensures;
+          (marked c.edit_proper.new.before) (e.1.saved refl) _ _ _ (rw c.of.ensures at c.report.ensures);
     }
