@@ -109,10 +109,7 @@ pub fn without_lowest(word: u32) -> u32
 pub fn several(word: u32) -> bool
     ensures { result ≡ not (eqb (bit_and (word - 1) word) 0) }
 {
-    if word != 0 {
-        return (word - 1) & word != 0;
-    }
-    false
+    word != 0 && (word - 1) & word != 0
 }
 
 // How many members there are.

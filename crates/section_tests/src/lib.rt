@@ -81,7 +81,8 @@ pub fn all_named(edges: &[u32], nodes: u32) -> bool
 }
 
 // The marks at nodes whose sample does not agree with the mask and the value, or, turned round, does. The value lies inside the mask. Whether it is turned is
-// no value but a part of the loop, so that neither loop spends an operation on it.
+// no value but a part of the loop, so that neither loop spends an operation on it. What it has in common with `pair_tables::put_turned` is `bits::picked`:
+// the comparison, the width of a word and what is kept differ.
 pub fn strays_turned<const TURNED: bool>(
     samples: &[u16],
     marks: &[u16],
@@ -100,7 +101,7 @@ pub fn strays_turned<const TURNED: bool>(
     all
 }
 
-// The marks at nodes that a state, turned round or not, does not admit.
+// The marks at nodes that a state, turned round or not, does not admit. No closure takes a const parameter, so `pair_tables::admit` chooses in its own words.
 pub fn strays(samples: &[u16], marks: &[u16], turned: bool, mask: u16, value: u16) -> u16
     requires samples_len { (length samples.now ≡ length marks.now) × (mask < 2 ^ word_bits) }
     requires mask_value { bit_and value mask ≡ value }
@@ -113,7 +114,8 @@ pub fn strays(samples: &[u16], marks: &[u16], turned: bool, mask: u16, value: u1
     }
 }
 
-// Whether each mark is at a node that its state admits, these states being turned round. A state that has no mark is passed over.
+// Whether each mark is at a node that its state admits, these states being turned round. A state that has no mark is passed over. Masks and values, and samples
+// and marks, are lists beside one another since the layout, which C reads, has a section for each.
 pub fn all_sparse(
     masks: &[u32],
     values: &[u32],
@@ -191,20 +193,18 @@ pub fn both_admitted(
     if masks.len() <= HALF_BITS {
         return half_admitted(masks, values, turned, samples, marks, used, 0);
     }
-    let low = &masks[..HALF_BITS];
-    let high = &masks[HALF_BITS..];
-    if !half_admitted(low, &values[..HALF_BITS], turned, samples, marks, used, 0) {
-        return false;
-    }
-    half_admitted(
-        high,
-        &values[HALF_BITS..],
-        turned,
-        samples,
-        marks,
-        used,
-        HALF_BITS as u32,
-    )
+    let (low, high) = masks.split_at(HALF_BITS);
+    let (low_values, high_values) = values.split_at(HALF_BITS);
+    half_admitted(low, low_values, turned, samples, marks, used, 0)
+        && half_admitted(
+            high,
+            high_values,
+            turned,
+            samples,
+            marks,
+            used,
+            HALF_BITS as u32,
+        )
 }
 
 // The same, given which states are inverted.
