@@ -9,6 +9,7 @@ ghost use Rattle.pair_tables.specs.Tables.{marked};
 ghost use Rattle.session_parts.specs.Inside.{Inside};
 ghost use Rattle.editing.specs.Steps.{RefinedAt};
 
+use refinement::nets::Net;
 use refinement::refine_few;
 use session_parts::{edges_of, links_of};
 use worklist::{WAITING_WORDS, put_in};
@@ -21,19 +22,20 @@ pub struct Effect {
 }
 
 // Refines a table beside a settled one, from one node.
+#[tactic(auto, using(session::proofs::Decoded::layout_limits))]
 pub fn refine_at(session: &[u32], node: u32, settled: &[u32], table: &mut [u32])
     requires { (in_layout session.now ≡ true) × (node < nodes (graph_of session.now)) × (length settled.now ≡ max_nodes) × (length table.old ≡ max_nodes) × Inside session.now table.old }
     ensures { RefinedAt session.now node (marked settled.now) (marked table.old) table.new }
 {
-    let nodes = session[1] as usize;
     let mut waiting = [0u32; WAITING_WORDS];
     put_in(&mut waiting, node as usize);
-    refine_few(
-        links_of(session),
-        edges_of(session),
-        nodes,
-        settled,
-        table,
-        &mut waiting,
-    );
+    let net = Net {
+        links: links_of(session),
+        edges: edges_of(session),
+        nodes: session[1] as usize,
+        callers: None,
+        firsts: None,
+        incoming: None,
+    };
+    refine_few(&net, settled, table, &mut waiting);
 }

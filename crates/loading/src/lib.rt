@@ -10,28 +10,30 @@ ghost use Rattle.promises.specs.Promises.{Loaded};
 
 use load_rules::load_rule;
 use promises::Answer;
+use refinement::nets::Net;
 use refinement::refine_indexed;
 use reports::report;
 use session_parts::{admitted_pairs, edges_of, links_of, store_marks, turned_of};
 use worklist::WAITING_WORDS;
 
 // Puts the greatest simulation of what the session holds into a table that is zero; how many pairs are admitted.
+#[tactic(auto, using(session::proofs::Decoded::layout_limits))]
 pub fn solve(session: &[u32], table: &mut [u32]) -> u32
     requires { (in_layout session.now ≡ true) × (length table.old ≡ max_nodes) × ((v : ℕ) → get_or table.old v 0 ≡ 0) }
     ensures { Solved session.now result table.new }
 {
-    let nodes = session[1] as usize;
     let trials = admitted_pairs(session, turned_of(session), table);
     let mut waiting = [bits::ALL; WAITING_WORDS];
     let settled = [0u32; session::MAX_NODES];
-    refine_indexed(
-        links_of(session),
-        edges_of(session),
-        nodes,
-        &settled,
-        table,
-        &mut waiting,
-    );
+    let net = Net {
+        links: links_of(session),
+        edges: edges_of(session),
+        nodes: session[1] as usize,
+        callers: None,
+        firsts: None,
+        incoming: None,
+    };
+    refine_indexed(&net, &settled, table, &mut waiting);
     trials
 }
 
