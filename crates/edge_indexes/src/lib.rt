@@ -1,11 +1,18 @@
 // The two indexes of the edges, by which a look at a node searches for nothing: where its own edges begin, and which end at it.
 #![tactic(auto)]
 
-ghost use Rattle.std.specs.Prelude.{◌≡◌, true, ℕ, ◌<◌, ◌≤◌, length, get_or};
+ghost use Rattle.std.specs.Prelude.{◌≡◌, true, ℕ, ◌<◌, ◌≤◌, length, get_or, IfSome};
 ghost use Rattle.session.specs.Limits.{max_edges, max_nodes, edge_numbers};
 ghost use Rattle.session.specs.Layout.{below};
 ghost use Rattle.edge_indexes.specs.Indexes.{Indexed, Noted, filled, Started, edges_from, starts_size};
 ghost use Rattle.simulation.specs.Ordered.{ascends};
+
+// The index of the edges that end at each node: the last of them by the node, and by each edge the one before it.
+#[derive(Clone, Copy)]
+pub struct IncomingIndex<'a> {
+    pub heads: &'a [u32],
+    pub nexts: &'a [u32],
+}
 
 // Builds the index of the edges that end at each node, in tables that are zero.
 #[tactic(auto, using(crate::proofs::Incoming::indexing_none, crate::proofs::Incoming::indexing_done))]
@@ -76,14 +83,14 @@ pub fn edges_from(edges: &[u32], v: usize) -> &[u32]
 
 // The edges of the node v: by the index of first edges, or by halving where there is none.
 #[tactic(auto, using(simulation::proofs::Edges::from_le, simulation::proofs::Edges::from_mono, crate::proofs::Ranges::range_from))]
-pub fn edges_at<'a>(edges: &'a [u32], firsts: &[u32], v: usize) -> &'a [u32]
+pub fn edges_at<'a>(edges: &'a [u32], firsts: Option<&[u32]>, v: usize) -> &'a [u32]
     requires edges_value { (ascends edges.now ≡ true) × (length edges.now ≤ max_edges) × (v < max_nodes) }
-    requires started { (length firsts.now ≡ 0 → ⊥) → Started edges.now firsts.now }
+    requires started { IfSome firsts (λ index. Started edges.now index.now) }
     ensures { result.now ≡ edges_from edges.now v }
 {
-    if firsts.len() == 0 {
+    let Some(firsts) = firsts else {
         return edges_from(edges, v);
-    }
+    };
     let low = firsts[v] as usize;
     let high = firsts[v + 1] as usize;
     &edges[low..high]

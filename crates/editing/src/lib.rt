@@ -9,6 +9,7 @@ ghost use Rattle.pair_tables.specs.Tables.{marked};
 ghost use Rattle.session_parts.specs.Inside.{Inside};
 ghost use Rattle.editing.specs.Steps.{RefinedAt};
 
+use refinement::nets::Net;
 use refinement::refine_few;
 use session_parts::Held;
 use worklist::{WAITING_WORDS, put_in};
@@ -18,15 +19,15 @@ pub fn refine_at(session: &Held, node: u32, settled: &[u32], table: &mut [u32])
     requires { (node < nodes (graph_of session.now)) × (length settled.now ≡ max_nodes) × (length table.old ≡ max_nodes) × Inside session.now table.old }
     ensures { RefinedAt session.now node (marked settled.now) (marked table.old) table.new }
 {
-    let nodes = session.nodes();
+    let net = Net {
+        links: session.links(),
+        edges: session.edges(),
+        nodes: session.nodes(),
+        callers: None,
+        firsts: None,
+        incoming: None,
+    };
     let mut waiting = [0u32; WAITING_WORDS];
     put_in(&mut waiting, node as usize);
-    refine_few(
-        session.links(),
-        session.edges(),
-        nodes,
-        settled,
-        table,
-        &mut waiting,
-    );
+    refine_few(&net, settled, table, &mut waiting);
 }

@@ -1,7 +1,7 @@
 // Sets of states by their links: those that a set is linked to, those with a link to a set, and those that are reached.
 #![tactic(auto)]
 
-ghost use Rattle.std.specs.Prelude.{◌≡◌, ℕ, ◌≤◌, ◌<◌, length, get_or, ◌&&◌, ◌||◌, eqb};
+ghost use Rattle.std.specs.Prelude.{◌≡◌, ℕ, ◌≤◌, ◌<◌, length, get_or, ◌&&◌, ◌||◌, eqb, IfSome};
 ghost use Rattle.simulation.specs.Sets.{minus};
 ghost use Rattle.bits.specs.Word.{members, set_bits};
 ghost use Rattle.session.specs.Reached.{reached, linked_by};
@@ -103,15 +103,12 @@ pub fn index_callers(links: &[u32], callers: &mut [u32])
 }
 
 // The states with a link to a state of the word: of one state by the table; of several, or where there is no table, by one pass over all links.
-pub fn calling(links: &[u32], callers: &[u32], word: u32) -> u32
-    requires { (length links.now ≤ set_bits) × ((length callers.now ≡ 0 → ⊥) → Callers links.now callers.now) }
+pub fn calling(links: &[u32], callers: Option<&[u32]>, word: u32) -> u32
+    requires { (length links.now ≤ set_bits) × IfSome callers (λ table. Callers links.now table.now) }
     ensures { members result ≡ links_to links.now word }
 {
-    if callers.len() == 0 {
-        return linking(links, word);
+    match callers {
+        Some(table) if !bits::several(word) => linked(table, word),
+        _ => linking(links, word),
     }
-    if bits::several(word) {
-        return linking(links, word);
-    }
-    linked(callers, word)
 }

@@ -10,6 +10,7 @@ ghost use Rattle.promises.specs.Promises.{Loaded};
 
 use load_rules::load_rule;
 use promises::{Answer, Lists};
+use refinement::nets::Net;
 use refinement::refine_indexed;
 use reports::report;
 use session_parts::{Held, store_marks};
@@ -20,18 +21,18 @@ pub fn solve(session: &Held, table: &mut [u32]) -> u32
     requires { (length table.old ≡ max_nodes) × ((v : ℕ) → get_or table.old v 0 ≡ 0) }
     ensures { Solved session.now result table.new }
 {
-    let nodes = session.nodes();
     let trials = session.admitted_pairs(session.turned(), table);
     let mut waiting = [bits::ALL; WAITING_WORDS];
     let settled = [0u32; session::MAX_NODES];
-    refine_indexed(
-        session.links(),
-        session.edges(),
-        nodes,
-        &settled,
-        table,
-        &mut waiting,
-    );
+    let net = Net {
+        links: session.links(),
+        edges: session.edges(),
+        nodes: session.nodes(),
+        callers: None,
+        firsts: None,
+        incoming: None,
+    };
+    refine_indexed(&net, &settled, table, &mut waiting);
     trials
 }
 

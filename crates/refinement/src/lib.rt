@@ -1,7 +1,7 @@
 // Refinement: tentative pairs that the settled and the tentative pairs do not support are cleared, node by node, until none is left.
 #![tactic(auto)]
 
-ghost use Rattle.std.specs.Prelude.{◌≡◌, true, not, ◌&&◌, ℕ, ◌<◌, ◌≤◌, length, get_or, MatchOption, None};
+ghost use Rattle.std.specs.Prelude.{◌≡◌, true, not, ◌&&◌, ℕ, ◌<◌, ◌≤◌, length, get_or, MatchOption, IfSome, None};
 ghost use Rattle.bits.specs.Word.{members, set_bits};
 ghost use Rattle.simulation.specs.Ordered.{ascends};
 ghost use Rattle.session.specs.Limits.{max_edges, max_nodes};
@@ -11,8 +11,11 @@ ghost use Rattle.edge_indexes.specs.Indexes.{edges_from, Started, Indexed};
 ghost use Rattle.links.specs.Links.{Callers};
 ghost use Rattle.worklist.specs.Waiting.{waiting_words, lowest_waiting};
 
-use edge_indexes::{STARTS, edges_at, index, index_starts};
+pub mod nets;
+
+use edge_indexes::{IncomingIndex, STARTS, edges_at, index, index_starts};
 use links::{CALLERS, calling, index_callers, linked, linking, unlinked};
+use nets::Net;
 use worklist::{call_in, lowest_in, take_out};
 
 // The links of the set without a carrier among the edges of a node. An edge strikes off every link that it carries, and the search ends where none is
@@ -57,46 +60,26 @@ pub fn kept(word: u32, links: &[u32], edges: &[u32], settled: &[u32], tentative:
 }
 
 // The states that keep their support at the node v.
-pub fn left_at(
-    links: &[u32],
-    edges: &[u32],
-    firsts: &[u32],
-    settled: &[u32],
-    tentative: &[u32],
-    v: usize,
-) -> u32
-    requires settled_len { (length settled.now ≡ max_nodes) × (length tentative.now ≡ max_nodes) × (v < max_nodes) × (length links.now ≤ set_bits) }
-    requires edges_value { (ascends edges.now ≡ true) × (length edges.now ≤ max_edges) × ((length firsts.now ≡ 0 → ⊥) → Started edges.now firsts.now) }
-    ensures { members result ≡ kept_of (get_or tentative.now v 0) links.now (edges_from edges.now v) settled.now tentative.now }
+pub fn left_at(net: &Net, settled: &[u32], tentative: &[u32], v: usize) -> u32
+    requires { (length settled.now ≡ max_nodes) × (length tentative.now ≡ max_nodes) × (v < max_nodes) }
+    ensures { members result ≡ kept_of (get_or tentative.now v 0) net.now.links.now (edges_from net.now.edges.now v) settled.now tentative.now }
 {
-    let out = edges_at(edges, firsts, v);
-    kept(tentative[v], links, out, settled, tentative)
+    let out = edges_at(net.edges, net.firsts, v);
+    kept(tentative[v], net.links, out, settled, tentative)
 }
 
 // Looks at the node v, which no longer waits; where pairs are cleared there, the predecessors that may have stood on them are called in.
-pub fn turn(
-    links: &[u32],
-    edges: &[u32],
-    settled: &[u32],
-    tentative: &mut [u32],
-    waiting: &mut [u32],
-    callers: &[u32],
-    firsts: &[u32],
-    heads: &[u32],
-    nexts: &[u32],
-    v: usize,
-)
-    requires settled_len { (length settled.now ≡ max_nodes) × (length tentative.old ≡ max_nodes) × (length waiting.old ≡ waiting_words) × (v < max_nodes) }
-    requires sound { Sound max_nodes links.now edges.now × ((length firsts.now ≡ 0 → ⊥) → Started edges.now firsts.now) × ((length heads.now ≡ 0 → ⊥) → Indexed edges.now heads.now nexts.now) × ((length callers.now ≡ 0 → ⊥) → Callers links.now callers.now) }
-    ensures { Turned links.now edges.now settled.now tentative.old waiting.old v tentative.new waiting.new }
+pub fn turn(net: &Net, settled: &[u32], tentative: &mut [u32], waiting: &mut [u32], v: usize)
+    requires { (length settled.now ≡ max_nodes) × (length tentative.old ≡ max_nodes) × (length waiting.old ≡ waiting_words) × (v < max_nodes) }
+    ensures { Turned net.now.links.now net.now.edges.now settled.now tentative.old waiting.old v tentative.new waiting.new }
 {
     take_out(waiting, v);
     let word = tentative[v];
-    let left = left_at(links, edges, firsts, settled, tentative, v);
+    let left = left_at(net, settled, tentative, v);
     if left != word {
         tentative[v] = left;
-        let shaken = calling(links, callers, bits::difference(word, left));
-        call_in(waiting, edges, heads, nexts, v, tentative, shaken);
+        let shaken = calling(net.links, net.callers, bits::difference(word, left));
+        call_in(waiting, net.edges, net.incoming, v, tentative, shaken);
     }
 }
 
@@ -106,84 +89,66 @@ pub const FEW: u32 = 2;
 // Refines the tentative table beside the settled one, from the nodes that wait, the lowest first. Without an index of incoming edges it stops
 // after a few looks. The lowest node that still waits, if one does.
 pub fn refine(
-    links: &[u32],
-    edges: &[u32],
-    nodes: usize,
+    net: &Net,
     settled: &[u32],
     tentative: &mut [u32],
     waiting: &mut [u32],
-    callers: &[u32],
-    firsts: &[u32],
-    heads: &[u32],
-    nexts: &[u32],
 ) -> Option<usize>
-    requires settled_len { (length settled.now ≡ max_nodes) × (length tentative.old ≡ max_nodes) × (length waiting.old ≡ waiting_words) }
-    requires sound { Sound nodes links.now edges.now × ((length firsts.now ≡ 0 → ⊥) → Started edges.now firsts.now) × ((length heads.now ≡ 0 → ⊥) → Indexed edges.now heads.now nexts.now) × ((length callers.now ≡ 0 → ⊥) → Callers links.now callers.now) }
-    ensures refining { Refining nodes links.now edges.now settled.now tentative.old waiting.old tentative.new waiting.new (lowest_waiting waiting.new) }
-    ensures lowest { MatchOption result (nodes ≤ lowest_waiting waiting.new) (λ v. (v < nodes) × (v ≡ lowest_waiting waiting.new)) }
-    ensures ended { (length heads.now ≡ 0 → ⊥) → result ≡ None }
+    requires { (length settled.now ≡ max_nodes) × (length tentative.old ≡ max_nodes) × (length waiting.old ≡ waiting_words) }
+    ensures refining { Refining net.now.nodes net.now.links.now net.now.edges.now settled.now tentative.old waiting.old tentative.new waiting.new (lowest_waiting waiting.new) }
+    ensures lowest { MatchOption result (net.now.nodes ≤ lowest_waiting waiting.new) (λ v. (v < net.now.nodes) × (v ≡ lowest_waiting waiting.new)) }
+    ensures ended { IfSome net.now.incoming (λ index. result ≡ None) }
 {
-    let bare = heads.len() == 0;
     let mut left = FEW;
     while let Some(v) = lowest_in(waiting)
-        && v < nodes
+        && v < net.nodes
     {
-        if bare {
+        if net.incoming.is_none() {
             if left == 0 {
                 return Some(v);
             }
             left -= 1;
         }
-        turn(
-            links, edges, settled, tentative, waiting, callers, firsts, heads, nexts, v,
-        );
+        turn(net, settled, tentative, waiting, v);
     }
     None
 }
 
 // The same to the end, with all indexes, which are built here.
-pub fn refine_indexed(
-    links: &[u32],
-    edges: &[u32],
-    nodes: usize,
-    settled: &[u32],
-    tentative: &mut [u32],
-    waiting: &mut [u32],
-)
+pub fn refine_indexed(net: &Net, settled: &[u32], tentative: &mut [u32], waiting: &mut [u32])
     requires settled_len { (length settled.now ≡ max_nodes) × (length tentative.old ≡ max_nodes) × (length waiting.old ≡ waiting_words) }
-    requires sound { Sound nodes links.now edges.now × ((u v : ℕ) → marked tentative.old u v ≡ true → v < nodes) }
-    ensures { Settled nodes links.now edges.now settled.now tentative.old waiting.old tentative.new }
+    requires inside { (u v : ℕ) → marked tentative.old u v ≡ true → v < net.now.nodes }
+    ensures { Settled net.now.nodes net.now.links.now net.now.edges.now settled.now tentative.old waiting.old tentative.new }
 {
     let mut firsts = [0u32; STARTS];
-    index_starts(edges, &mut firsts);
+    index_starts(net.edges, &mut firsts);
     let mut heads = [0u32; session::MAX_NODES];
     let mut nexts = [0u32; session::MAX_EDGES];
-    index(edges, &mut heads, &mut nexts);
+    index(net.edges, &mut heads, &mut nexts);
     let mut callers = [0u32; CALLERS];
-    index_callers(links, &mut callers);
-    refine(
-        links, edges, nodes, settled, tentative, waiting, &callers, &firsts, &heads, &nexts,
-    );
+    index_callers(net.links, &mut callers);
+    let indexed = Net {
+        links: net.links,
+        edges: net.edges,
+        nodes: net.nodes,
+        callers: Some(&callers),
+        firsts: Some(&firsts),
+        incoming: Some(IncomingIndex {
+            heads: &heads,
+            nexts: &nexts,
+        }),
+    };
+    refine(&indexed, settled, tentative, waiting);
 }
 
 // The same where few nodes wait: the first looks make do without an index, and often there are no more.
-pub fn refine_few(
-    links: &[u32],
-    edges: &[u32],
-    nodes: usize,
-    settled: &[u32],
-    tentative: &mut [u32],
-    waiting: &mut [u32],
-)
+pub fn refine_few(net: &Net, settled: &[u32], tentative: &mut [u32], waiting: &mut [u32])
     requires settled_len { (length settled.now ≡ max_nodes) × (length tentative.old ≡ max_nodes) × (length waiting.old ≡ waiting_words) }
-    requires sound { Sound nodes links.now edges.now × ((u v : ℕ) → marked tentative.old u v ≡ true → v < nodes) }
-    ensures { Settled nodes links.now edges.now settled.now tentative.old waiting.old tentative.new }
+    requires inside { (u v : ℕ) → marked tentative.old u v ≡ true → v < net.now.nodes }
+    ensures { Settled net.now.nodes net.now.links.now net.now.edges.now settled.now tentative.old waiting.old tentative.new }
 {
-    let none = &edges[..0];
-    let left = refine(
-        links, edges, nodes, settled, tentative, waiting, none, none, none, none,
-    );
+    let left = refine(net, settled, tentative, waiting);
     if left.is_some() {
-        refine_indexed(links, edges, nodes, settled, tentative, waiting);
+        refine_indexed(net, settled, tentative, waiting);
     }
 }

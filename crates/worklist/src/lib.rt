@@ -1,7 +1,7 @@
 // The nodes that must be looked at again, as a set, and the ways in which nodes are put in.
 #![tactic(auto)]
 
-ghost use Rattle.std.specs.Prelude.{◌≡◌, true, ◌&&◌, ◌||◌, not, ℕ, ◌/◌, ◌%◌, ◌<◌, ◌≤◌, eqb, length, get_or};
+ghost use Rattle.std.specs.Prelude.{◌≡◌, true, ◌&&◌, ◌||◌, not, ℕ, ◌/◌, ◌%◌, ◌<◌, ◌≤◌, eqb, length, get_or, IfSome};
 ghost use Rattle.simulation.specs.Sets.{also, without};
 ghost use Rattle.bits.specs.Word.{overlaps, members, set_bits};
 ghost use Rattle.session.specs.Limits.{max_edges, max_nodes, edge_numbers};
@@ -10,6 +10,7 @@ ghost use Rattle.edge_indexes.specs.Indexes.{Indexed, predecessors};
 ghost use Rattle.worklist.specs.Waiting.{waits, waiting_words, IsLowest};
 
 use bits::SET_BITS;
+use edge_indexes::IncomingIndex;
 
 // A bit for each node.
 pub const WAITING_WORDS: usize = session::MAX_NODES / SET_BITS;
@@ -47,24 +48,23 @@ pub fn lowest_in(waiting: &[u32]) -> Option<usize>
 pub fn call_in_by_index(
     waiting: &mut [u32],
     edges: &[u32],
-    heads: &[u32],
-    nexts: &[u32],
+    index: IncomingIndex,
     node: usize,
     table: &[u32],
     word: u32,
 )
     requires waiting_len { (length waiting.old ≡ waiting_words) × (node < max_nodes) × (length edges.now ≤ max_edges) × (length table.now ≡ max_nodes) }
-    requires edges_value { (below edge_numbers edges.now ≡ true) × Indexed edges.now heads.now nexts.now }
+    requires edges_value { (below edge_numbers edges.now ≡ true) × Indexed edges.now index.heads.now index.nexts.now }
     ensures { (length waiting.new ≡ waiting_words) × (waits waiting.new ≡ (λ w. waits waiting.old w || (predecessors edges.now node w && overlaps (get_or table.now w 0) word))) }
 {
-    let mut next = heads[node] as usize;
+    let mut next = index.heads[node] as usize;
     while next != 0 {
         let k = next - 1;
         let start = (edges[k] / session::EDGE_BASE) as usize;
         if bits::meet(table[start], word) {
             put_in(waiting, start);
         }
-        next = nexts[k] as usize;
+        next = index.nexts[k] as usize;
     }
 }
 
@@ -96,20 +96,18 @@ pub fn call_in_by_edges(waiting: &mut [u32], edges: &[u32], node: usize, table: 
 pub fn call_in(
     waiting: &mut [u32],
     edges: &[u32],
-    heads: &[u32],
-    nexts: &[u32],
+    index: Option<IncomingIndex>,
     node: usize,
     table: &[u32],
     word: u32,
 )
     requires waiting_len { (length waiting.old ≡ waiting_words) × (node < max_nodes) × (length edges.now ≤ max_edges) × (length table.now ≡ max_nodes) }
-    requires edges_value { (below edge_numbers edges.now ≡ true) × ((length heads.now ≡ 0 → ⊥) → Indexed edges.now heads.now nexts.now) }
+    requires edges_value { (below edge_numbers edges.now ≡ true) × IfSome index (λ i. Indexed edges.now i.heads.now i.nexts.now) }
     ensures { (length waiting.new ≡ waiting_words) × (waits waiting.new ≡ (λ w. waits waiting.old w || (predecessors edges.now node w && overlaps (get_or table.now w 0) word))) }
 {
-    if heads.len() == 0 {
-        call_in_by_edges(waiting, edges, node, table, word);
-    } else {
-        call_in_by_index(waiting, edges, heads, nexts, node, table, word);
+    match index {
+        Some(index) => call_in_by_index(waiting, edges, index, node, table, word),
+        None => call_in_by_edges(waiting, edges, node, table, word),
     }
 }
 

@@ -4,8 +4,8 @@ use Rattle.growth.proofs.grow.Given as goal
 
 abbrev pub invariant-loop-v : goal.invariant-loop-v
 invariant-loop-v l =
-    Growing l.nodes l.links l.edges l.fresh l.initial.trials l.trials l.waiting
+    Growing l.net.nodes l.net.links.now l.net.edges.now l.fresh l.initial.trials l.trials l.waiting
 
 abbrev pub decreases-loop-v : goal.decreases-loop-v
 decreases-loop-v l =
-    left l.nodes l.links l.edges l.fresh l.trials l.waiting
+    left l.net.nodes l.net.links.now l.net.edges.now l.fresh l.trials l.waiting

@@ -4,7 +4,7 @@ use Rattle.growth.proofs.spread.Given as goal
 
 abbrev pub invariant-loop-next : goal.invariant-loop-next
 invariant-loop-next l =
-    Spreading l.edges l.fresh l.v l.able l.initial.trials l.initial.waiting l.trials l.waiting l.next
+    Spreading l.net.edges.now l.fresh l.v l.able l.initial.trials l.initial.waiting l.trials l.waiting l.next
 
 abbrev pub decreases-loop-next : goal.decreases-loop-next
 decreases-loop-next l =

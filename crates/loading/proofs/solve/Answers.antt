@@ -6,18 +6,22 @@ use Rattle.refinement.proofs.Systems.{held_sound}
 use Rattle.loading.proofs.Solving.{all_wait, held-inside, held_solved}
 use Rattle.loading.proofs.solve.Goals as goal
 
+pub invariant_of-net : goal.invariant_of-net
+invariant_of-net c = record {
+  sound = rw c.nodes.ensures.is (held_sound c.args.session.now c.nodes.ensures.held _ _ c.links.ensures.is c.edges.ensures.is);
+  called = tt;
+  started = tt;
+  indexed = tt;
+}
+
 pub refine_indexed-requires : goal.refine_indexed-requires
 refine_indexed-requires c =
-    let xs = c.args.session.now in
     let a = c.admitted_pairs-trials.ensures in record {
       settled_len = (refl, a.long, refl);
-      sound = (
-        rw c.nodes-nodes.ensures.is (held_sound xs c.nodes-nodes.ensures.held _ _ c.links.ensures.is c.edges.ensures.is),
-        rw c.nodes-nodes.ensures.is (held-inside xs c.nodes-nodes.ensures.held _ _ a),
-      );
+      inside = rw c.nodes.ensures.is (held-inside c.args.session.now c.nodes.ensures.held _ _ a);
     }
 
 pub returns : goal.returns
 returns c =
-    held_solved c.args.session.now c.nodes-nodes.ensures.held _ _ c.admitted_pairs-trials.ensures _ _ _ _ _ c.links.ensures.is c.edges.ensures.is
-    (zeros max_nodes) all_wait (rw c.nodes-nodes.ensures.is at c.refine_indexed.ensures)
+    held_solved c.args.session.now c.nodes.ensures.held _ _ c.admitted_pairs-trials.ensures _ _ _ _ _ c.links.ensures.is c.edges.ensures.is
+    (zeros max_nodes) all_wait (rw c.nodes.ensures.is at c.refine_indexed.ensures)

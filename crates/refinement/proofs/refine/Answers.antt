@@ -4,8 +4,8 @@ use Rattle.refinement.proofs.refine.Goals as goal
 
 pub loop-v-smaller : goal.loop-v-smaller
 loop-v-smaller c =
-    refining_less _ _ _ c.requires.sound.0 _ _ _ _ _ _ c.in-Some.ensures.1 c.if-v-nodes.true c.turn.ensures
+    refining_less _ _ _ c.args.net.now.sound _ _ _ _ _ _ c.in-Some.ensures.1 c.if-v-net.true c.turn.ensures
 
 pub loop-v-preserved : goal.loop-v-preserved
 loop-v-preserved c =
-    refining_turn _ _ _ c.requires.sound.0 _ _ _ _ _ _ _ _ _ _ c.loop-v.invariant c.turn.ensures refl
+    refining_turn _ _ _ c.args.net.now.sound _ _ _ _ _ _ _ _ _ _ c.loop-v.invariant c.turn.ensures refl

@@ -10,8 +10,8 @@ use Rattle.refinement.proofs.refine.Given as goal
 
 abbrev pub invariant-loop-v : goal.invariant-loop-v
 invariant-loop-v l =
-    Refining l.nodes l.links l.edges l.settled l.initial.tentative l.initial.waiting l.tentative l.waiting (lowest_waiting l.waiting)
+    Refining l.net.nodes l.net.links.now l.net.edges.now l.settled l.initial.tentative l.initial.waiting l.tentative l.waiting (lowest_waiting l.waiting)
 
 abbrev pub decreases-loop-v : goal.decreases-loop-v
 decreases-loop-v l =
-    starts_size * count (l.nodes * length l.links) (tabled l.nodes l.links l.edges l.tentative) + count max_nodes (waits l.waiting)
+    starts_size * count (l.net.nodes * length l.net.links.now) (tabled l.net.nodes l.net.links.now l.net.edges.now l.tentative) + count max_nodes (waits l.waiting)

@@ -15,5 +15,5 @@ unstopped (Some v) P Q e h = clash refl e
 pub returns-else-is_some : goal.returns-else-is_some
 returns-else-is_some c =
     let r = c.refine-left in
-    refining_end _ _ _ c.requires.sound.0 _ _ _ _ _ _ r.ensures.refining
-    (unstopped r.result _ _ (sym c.is_some.ensures ∙ c.if-is_some.false) r.ensures.lowest) c.requires.sound.1 c.requires.settled_len.1
+    refining_end _ _ _ c.args.net.now.sound _ _ _ _ _ _ r.ensures.refining
+    (unstopped r.result _ _ (sym c.is_some.ensures ∙ c.if-is_some.false) r.ensures.lowest) c.requires.inside c.requires.settled_len.1

@@ -11,25 +11,24 @@ use Rattle.refinement.proofs.refine_indexed.Goals as goal
 
 pub index_starts-requires : goal.index_starts-requires
 index_starts-requires c =
-    let a = c.args in
+    let net = c.args.net.now in
     record {
-      edges_len_bound = (omega (arith, c.requires.sound.0.few_edges), c.requires.sound.0.ascend, sound_below a.nodes a.links.now a.edges.now c.requires.sound.0, refl);
+      edges_len_bound = (omega (arith, c.args.net.now.sound.few_edges), c.args.net.now.sound.ascend, sound_below net.nodes net.links.now net.edges.now c.args.net.now.sound, refl);
       by_index = zeros starts_size;
     }
 
 pub index-requires : goal.index-requires
 index-requires c =
     record {
-      edges_len_bound = (omega (arith, c.requires.sound.0.few_edges), refl, refl);
+      edges_len_bound = (omega (arith, c.args.net.now.sound.few_edges), refl, refl);
       by_index = zeros max_nodes;
     }
 
 pub index_callers-requires : goal.index_callers-requires
 index_callers-requires c =
-    (omega (arith, c.requires.sound.0.few_states), refl, zeros set_bits)
+    (omega (arith, c.args.net.now.sound.few_states), refl, zeros set_bits)
 
 pub returns : goal.returns
 returns c =
     let r = c.refine.ensures in
-    let none = r.ended (λ none. omega (arith, none, c.index.ensures.heads_long)) in
-    refining_end _ _ _ c.requires.sound.0 _ _ _ _ _ _ r.refining (rw none at r.lowest) c.requires.sound.1 c.requires.settled_len.1
+    refining_end _ _ _ c.args.net.now.sound _ _ _ _ _ _ r.refining (rw r.ended at r.lowest) c.requires.inside c.requires.settled_len.1
