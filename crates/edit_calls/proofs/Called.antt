@@ -12,7 +12,7 @@ use Rattle.session.specs.Layout.{trigger_of, graph_of, marks_of, in_layout}
 use Rattle.session.proofs.Image.{states-word, nodes-word}
 use Rattle.session.proofs.Decoded.{Inside, marks-take}
 use Rattle.listing.specs.Changes.{changes}
-use Rattle.promises.specs.declared.Answer.{Answer}
+use Rattle.promises.specs.Answers.{Answer}
 use Rattle.promises.specs.Rules.{Kind, edited, graph_rules, verdict}
 use Rattle.promises.specs.Promises.{Reported, Done, Carried}
 use Rattle.editing.proofs.Moved.{left-trigger, left-graph, left-layout}

@@ -6,11 +6,10 @@ ghost use Rattle.session.specs.Limits.{max_nodes};
 ghost use Rattle.session.specs.Layout.{trigger_of, graph_of, marks_of, in_layout};
 ghost use Rattle.promises.specs.Rules.{graph_rules, verdict};
 ghost use Rattle.promises.specs.Promises.{Done, Edited, Inserted, Deleted};
-ghost use Rattle.editing.specs.Steps.{kind_of, Saved};
+ghost use Rattle.editing.specs.Steps.{kind_of, Saved, calm, tried};
 
 use deletion::delete_edit;
 use edit_rules::edit_rule;
-use editing::Effect;
 use insertion::insert_edit;
 use promises::Answer;
 use reports::{answered, report};
@@ -22,9 +21,9 @@ pub fn edit_proper(
     start: u32,
     end: u32,
     before: &mut [u32],
-) -> Effect
+) -> Option<u32>
     requires { (in_layout session.old ≡ true) × (verdict (graph_rules (kind_of inserts) (graph_of session.old) start end) ≡ 0) × (length before.old ≡ max_nodes) }
-    ensures { Done (kind_of inserts) (trigger_of session.old) (graph_of session.old) (marks_of session.old) (marks_of session.new) start end result.trials session.old session.new × Saved session.old session.new before.new result.calm }
+    ensures { Done (kind_of inserts) (trigger_of session.old) (graph_of session.old) (marks_of session.old) (marks_of session.new) start end (tried result) session.old session.new × Saved session.old session.new before.new (calm result) }
 {
     if inserts {
         insert_edit(session, start, end, before)
@@ -37,17 +36,12 @@ pub fn edit_proper(
 pub fn edit(session: &mut [u32], inserts: bool, start: u32, end: u32, changes: &mut [i32]) -> Answer
     ensures { Edited (kind_of inserts) session.old start end changes.old result session.new changes.new }
 {
-    let broken = edit_rule(session, changes.len(), inserts, start, end);
-    if broken != 0 {
-        return Answer::Refused(broken);
-    }
+    edit_rule(session, changes.len(), inserts, start, end)?;
     let mut before = [0u32; session::MAX_NODES];
-    let effect = edit_proper(session, inserts, start, end, &mut before);
-    let trials = effect.trials;
-    if effect.calm {
-        return answered(session, trials, 0);
+    match edit_proper(session, inserts, start, end, &mut before) {
+        Some(trials) => report(session, &before, trials, changes),
+        None => answered(session, 0, 0),
     }
-    report(session, &before, trials, changes)
 }
 
 // Inserts the edge from start to end.

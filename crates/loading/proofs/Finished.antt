@@ -15,7 +15,7 @@ use Rattle.session.proofs.Decoded.{trigger-image, graph-image, marks-image, layo
 use Rattle.pair_tables.specs.Tables.{marked}
 use Rattle.pair_tables.proofs.Tabling.{marked-none}
 use Rattle.listing.specs.Changes.{changes}
-use Rattle.promises.specs.declared.Answer.{Answer}
+use Rattle.promises.specs.Answers.{Answer}
 use Rattle.promises.specs.Standing.{stands, size, pairs_of}
 use Rattle.promises.specs.Rules.{Given, given_trigger, given_graph, load_rules, verdict}
 use Rattle.promises.specs.Promises.{Left, Reported}

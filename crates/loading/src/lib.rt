@@ -82,7 +82,7 @@ pub fn load(
 ) -> Answer
     ensures { Loaded (given masks.now values.now links.now inverted samples.now starts.now ends.now) session.old changes.old result session.new changes.new }
 {
-    let broken = load_rule(
+    load_rule(
         session.len(),
         changes.len(),
         masks,
@@ -92,11 +92,7 @@ pub fn load(
         samples,
         starts,
         ends,
-    );
-    let turned_back = broken != 0;
-    if turned_back {
-        return Answer::Refused(broken);
-    }
+    )?;
     write_sections(
         session, masks, values, links, inverted, samples, starts, ends,
     );

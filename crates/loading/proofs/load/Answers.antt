@@ -8,7 +8,9 @@ use lib.ListN.{length, get_or, replicate}
 use Rattle.session.specs.Layout.{below, in_layout}
 use Rattle.session.proofs.Tables.{below_make}
 use Rattle.pair_tables.proofs.Zeros.{zeros}
+use Rattle.std.proofs.lemmas.Result.{err_from_is_err_and}
 use Rattle.promises.specs.Answers.{refused}
+use Rattle.promises.proofs.Refusals.{number-some}
 use Rattle.promises.specs.Rules.{Given, given, load_rules, verdict}
 use Rattle.promises.proofs.Loads.{load-room, load_elsewhere}
 use Rattle.loading.proofs.Finished.{load-layout, load_inside, load-marked, load-written}
@@ -34,24 +36,27 @@ samples_fit c = halves c.args.samples.now (λ i. omega (arith, c.type_inv.sample
 
 -- no rule is broken
 passed : (c : After-write_sections) → verdict (load_rules (length c.args.session.now) (length c.args.changes.now) (loaded c)) ≡ 0
-passed c = sym c.load_rule-broken.ensures ∙ c.if-turned_back.false
+passed c = sym (c.in_ok-load_rule.ensures {u = tt})
 
 layout : (c : After-write_sections) → in_layout c.write_sections.new.session ≡ true
 layout c =
     load-layout (loaded c) c.args.session.now (length c.args.changes.now) (passed c) (masks_fit c) (values_fit c) (samples_fit c)
     c.write_sections.new.session c.write_sections.ensures
 
-pub returns-then-turned_back : goal.returns-then-turned_back
-returns-then-turned_back c =
+pub returns-in_err-load_rule : goal.returns-in_err-load_rule
+returns-in_err-load_rule c =
     let a = c.args in
+    let found = c.in_err-load_rule.ensures {u = tt} in
+    let p = err_from_is_err_and c.from_residual.result c.from_residual.ensures.1 in
+    rw (p.1, p.2)
     record {
       words = (
         halves a.masks.now (λ i. omega (arith, c.type_inv.masks i)),
         halves a.values.now (λ i. omega (arith, c.type_inv.values i)),
         halves a.samples.now (λ i. omega (arith, c.type_inv.samples i)),
       );
-      refuses = λ bad. record { answer = ap refused c.load_rule-broken.ensures; session = refl; room = refl };
-      accepts = λ ok. absurd (c.if-turned_back.true (c.load_rule-broken.ensures ∙ ok));
+      refuses = λ bad. record { answer = ap refused found; session = refl; room = refl };
+      accepts = λ ok. absurd (number-some c.in_err-load_rule.field-0.0 (found ∙ ok));
     }
 
 pub write_sections-requires : goal.write_sections-requires
@@ -59,7 +64,7 @@ write_sections-requires c =
     let a = c.args in
     load_elsewhere (length a.session.now) (length a.changes.now)
     (given a.masks.now a.values.now a.links.now a.inverted a.samples.now a.starts.now a.ends.now)
-    (sym c.load_rule-broken.ensures ∙ c.if-turned_back.false) max_changes (omega arith)
+    (sym (c.in_ok-load_rule.ensures {u = tt})) max_changes (omega arith)
 
 pub solve-trials-requires : goal.solve-trials-requires
 solve-trials-requires c =
