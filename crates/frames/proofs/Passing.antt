@@ -8,22 +8,21 @@ use mathlib.Core.List.{List, [], ◌∷◌, ◌++◌, append-nil}
 use lib.Dec.{ltb, eqb}
 use lib.ListN.{length, get_or, take, drop, length-append, length-take, length-drop, drop_of_length-le}
 use lib.Seq.{take_all}
-use borrow.Author.Tests.{ltb-false, lt-ltb, le-ltb}
+use borrow.Author.Tests.{ltb-false, le-ltb}
 use Rattle.simulation.proofs.Sets.{clash}
-use Rattle.std.specs.Prelude.{Ok, Err}
-use Rattle.session.specs.Limits.{max_changes}
-use Rattle.promises.specs.declared.Refusal.{Refusal}
-use Rattle.promises.specs.Answers.{number, accepted, refused}
-use Rattle.promises.specs.Rules.{verdict}
-use Rattle.promises.proofs.Verdicts.{accepts-or, verdict_pass, verdict_skip, row-passed, row-broken}
+use Rattle.std.specs.Prelude.{Ok}
 use Rattle.frames.specs.declared.Progress.{Progress}
+use Rattle.session.specs.Limits.{max_changes}
+use Rattle.promises.specs.Answers.{accepted, refused}
+use Rattle.promises.specs.Rules.{verdict}
+use Rattle.promises.proofs.Verdicts.{accepts-or, verdict_pass, verdict_skip}
 use Rattle.frames.specs.Frames.{Frame, state, node, run, edit, walk, nothing, frame_of}
-use Rattle.frames.specs.Lines.{line_ends, line_in, front_size, Keeps, Gathers}
+use Rattle.frames.specs.Lines.{line_ends, line_in, front_size, Gathers}
 use Rattle.frames.specs.Machine.{Memory, memory, output_size, memory_rules, Prints, Before, After, Answers, Stepped}
 use Rattle.frames.specs.Program.{Fresh}
 use Rattle.frames.specs.Blocks.{input_rules, Reached, written_of, at_of, Point, point, output_after, with_output, GoesOn, Passes, stops, begins, answers, BlockTaken, InputEnded}
-use Rattle.frames.proofs.Fronts.{keeps-long, keeps_same}
-use Rattle.frames.proofs.Takes.{number-some, Counted, Passed, rules-passed, passed-rules, answers-counted, taken-line}
+use Rattle.frames.proofs.Fronts.{keeps-long}
+use Rattle.frames.proofs.Takes.{Counted, Passed, rules-passed, passed-rules, answers-counted, taken-line}
 
 -- ---- the rules of the lent memory
 
@@ -224,24 +223,6 @@ module _ (block : List ℕ) where
       pub part-fits : p.written + n ≤ length p.memory.out
       part-fits = written-fits n left a' same'
 
-      pub part-long : length (take p.written p.memory.out ++ (left.out ++ drop (length p.memory.out - p.written) (drop p.written p.memory.out)))
-          ≡ length p.memory.out
-      part-long =
-          let out = p.memory.out in
-          let rest = drop p.written out in
-          let k = length out - p.written in
-          length-append (take p.written out) (left.out ++ drop k rest)
-          ∙ omega (
-            arith,
-            length-take p.written out,
-            length-append left.out (drop k rest),
-            same.out,
-            length-take k rest,
-            length-drop k rest,
-            length-drop p.written out,
-            s.inside,
-          )
-
       pub pass_line : (e : Bool) → e ≡ true → Gathers p.front p.begun block p.at front' begun' at' e
           → Upto block start (point front' 0 at' (p.written + n) (memory left.counts left.words left.session left.room
           (take p.written p.memory.out ++ (left.out ++ drop (length p.memory.out - p.written) (drop p.written p.memory.out)))))
@@ -346,50 +327,11 @@ end-written m front begun r m' t ok =
     answers-fit m (take begun front) (written_of r) m' (input_passed m front ok).0.counted (t.line ok (omega (arith, some))))
     (accepts-or begun)
 
--- ---- the promises, return by return
+-- what a call promises, of the progress that it tells
+pub block-told : {m : Memory} {front : List ℕ} {begun : ℕ} {block : List ℕ} {r : Reached} {m' : Memory} {front' : List ℕ} {p : Progress}
+    → r ≡ Ok p → BlockTaken m front begun block r m' front' → BlockTaken m front begun block (Ok p) m' front'
+block-told {m} {front} {begun} {block} {r} {m'} {front'} e t = subst (λ (x : Reached). BlockTaken m front begun block x m' front') e t
 
-module _ (m : Memory) (front : List ℕ) where
-  pub rule-front : length front < front_size → 3 ≡ verdict (input_rules m front)
-  rule-front l = row-broken 3 (ltb (length front) front_size) true (memory_rules m) (sym (lt-ltb (length front) front_size l)) refl
-
-  pub rule-others : (k : ℕ) → front_size ≤ length front → k ≡ verdict (memory_rules m) → k ≡ verdict (input_rules m front)
-  rule-others k l e = row-passed 3 (ltb (length front) front_size) false (memory_rules m) (sym (le-ltb (length front) front_size l)) k refl e
-
-  module _ (begun : ℕ) where
-    module _ (rule : Refusal) (rule-is : number rule ≡ verdict (input_rules m front)) where
-      pub block_refused : (block : List ℕ) → BlockTaken m front begun block (Err rule) m front
-      block_refused block = record {
-        refuses = λ bad. ((rule-is, refl, refl, refl), refl, refl);
-        passes = λ ok. absurd (number-some rule (rule-is ∙ ok));
-      }
-
-      pub end_refused : InputEnded m front begun (Err rule) m
-      end_refused = record {
-        refuses = λ bad. ((rule-is, refl, refl, refl), refl);
-        told = λ ok. absurd (number-some rule (rule-is ∙ ok));
-        none = λ ok z. absurd (number-some rule (rule-is ∙ ok));
-        line = λ ok l. absurd (number-some rule (rule-is ∙ ok));
-      }
-
-    module _ (fine : verdict (input_rules m front) ≡ 0) where
-      pub block-passed-over : (block : List ℕ) (p : Progress) (m' : Memory) (front' : List ℕ)
-          → Passes block (point front begun 0 0 m) (point front' p.begun p.at p.written m')
-          → BlockTaken m front begun block (Ok p) m' front'
-      block-passed-over block p m' front' w = record { refuses = λ bad. absurd (bad fine); passes = λ ok. (refl, w) }
-
-      pub end_none : begun ≡ 0 → InputEnded m front begun (Ok record { written = 0; at = 0; begun = 0 }) m
-      end_none z = record {
-        refuses = λ bad. absurd (bad fine);
-        told = λ ok. (refl, refl, refl);
-        none = λ ok e. (refl, refl);
-        line = λ ok l. absurd (omega (arith, l, z));
-      }
-
-      pub end_line : (used n : ℕ) (m' : Memory) → (begun ≡ 0 → ⊥) → Keeps front begun [] front used → Answers m (take used front) n m'
-          → InputEnded m front begun (Ok record { written = n; at = 0; begun = 0 }) m'
-      end_line used n m' some keeps a = record {
-        refuses = λ bad. absurd (bad fine);
-        told = λ ok. (refl, refl, refl);
-        none = λ ok z. absurd (some z);
-        line = λ ok l. subst (λ (w : List ℕ). Answers m w n m') (keeps_same front begun used keeps) a;
-      }
+pub end-told : {m : Memory} {front : List ℕ} {begun : ℕ} {r : Reached} {m' : Memory} {p : Progress}
+    → r ≡ Ok p → InputEnded m front begun r m' → InputEnded m front begun (Ok p) m'
+end-told {m} {front} {begun} {r} {m'} e t = subst (λ (x : Reached). InputEnded m front begun x m') e t

@@ -13,13 +13,12 @@ use lib.ListN.{length, get_or, set, take, drop}
 use lib.Seq.{get_or-set_same, get_or-set_other}
 use borrow.Author.Tests.{le-ltb, ltb-false, leb-false}
 use Rattle.simulation.proofs.Sets.{or_false_l, or_false_r}
-use Rattle.std.specs.Prelude.{Some, Ok, Err}
+use Rattle.std.specs.Prelude.{Some, Ok}
 use Rattle.session.specs.Limits.{fixed_size, max_states, max_nodes, max_changes}
 use Rattle.listing.specs.Placed.{Placed}
-use Rattle.promises.specs.declared.Refusal.{Refusal}
-use Rattle.promises.specs.Answers.{number, Outcome, Summary, accepted, refused, told}
+use Rattle.promises.specs.Answers.{Outcome, Summary, accepted, refused, told}
 use Rattle.promises.specs.Rules.{rule, verdict, given}
-use Rattle.promises.proofs.Verdicts.{accepts-or, verdict_pass, row-passed, row-broken, rows_end}
+use Rattle.promises.proofs.Verdicts.{accepts-or, verdict_pass}
 use Rattle.frames.specs.declared.Frame as declared
 use Rattle.frames.specs.declared.Frame.TheVariants as F
 use Rattle.frames.specs.declared.State.{State}
@@ -51,10 +50,6 @@ use Rattle.frames.specs.Machine.{
   Stepped,
 }
 use Rattle.frames.proofs.Kept.{state-moment, state-ready, node-moment, node-ready}
-
--- a rule's number is not 0, which tells that none is broken
-pub number-some : (rule : Refusal) → number rule ≡ 0 → ⊥
-number-some rule e = grind arith
 
 -- bytes placed at the front of the output are printed
 pub printed-front : (counts words s : List ℕ) (c : List ℤ) {out bytes out' : List ℕ} {n : ℕ} → Placed out 0 bytes out' n
@@ -97,15 +92,6 @@ module _ (m m' : Memory) (n : ℕ) (p : Prints (refusal 2) m n m') where
   late (F.Insert e) a b c = absurd (a e refl)
   late (F.Delete e) a b c = absurd (b e refl)
   late F.Walk a b c = absurd (c refl)
-
--- ---- a line at its moment
-
-module _ (m : Memory) (line : List ℕ) (n : ℕ) (m' : Memory) where
-  pub answers-before : get_or m.counts 0 0 ≡ 0 → Before (frame_of line) m n m' → Answers m line n m'
-  answers-before moment w = record { before = λ e. w; after = λ e. absurd (omega (arith, e, moment)) }
-
-  pub answers-after : (get_or m.counts 0 0 ≡ 0 → ⊥) → After (frame_of line) m n m' → Answers m line n m'
-  answers-after moment w = record { before = λ e. absurd (moment e); after = λ e. w }
 
 -- ---- a memory that breaks no rule of its own
 
@@ -232,23 +218,7 @@ module _ (m m' : Memory) (n : ℕ) (r : Ready m) (c : Counted m.counts) where
       (λ z. after-counted (frame_of line) (a.after (omega (arith, z, c.0))))
       (accepts-or (get_or m.counts 0 0))
 
--- ---- the rules of the memory, and then the line
+-- ---- a line in such a memory
 
-module _ (m : Memory) (a : Bool) (a-is : a ≡ too_small m) where
-  pub rule-short : a ≡ true → 3 ≡ verdict (memory_rules m)
-  rule-short h = row-broken 3 (too_small m) a (rule 10 (miscounted m) ∷ []) a-is h
-
-  module _ (long : a ≡ false) (b : Bool) (b-is : b ≡ miscounted m) where
-    pub rule-counts : b ≡ true → 10 ≡ verdict (memory_rules m)
-    rule-counts h = row-passed 3 (too_small m) a (rule 10 (miscounted m) ∷ []) a-is 10 long (row-broken 10 (miscounted m) b [] b-is h)
-
-    pub rule-none : b ≡ false → 0 ≡ verdict (memory_rules m)
-    rule-none h =
-        row-passed 3 (too_small m) a (rule 10 (miscounted m) ∷ []) a-is 0 long (row-passed 10 (miscounted m) b [] b-is 0 h rows_end)
-
-module _ (m : Memory) (line : List ℕ) where
-  pub taken_refused : (rule : Refusal) → number rule ≡ verdict (memory_rules m) → Stepped m line (Err rule) m
-  taken_refused rule e = record { refuses = λ bad. (ap refused e, refl); answers = λ z. absurd (number-some rule (e ∙ z)) }
-
-  pub taken-line : (n : ℕ) (m' : Memory) → verdict (memory_rules m) ≡ 0 → Answers m line n m' → Stepped m line (Ok n) m'
-  taken-line n m' ok w = record { refuses = λ bad. absurd (bad ok); answers = λ z. (n, refl, w) }
+pub taken-line : (m : Memory) (line : List ℕ) (n : ℕ) (m' : Memory) → verdict (memory_rules m) ≡ 0 → Answers m line n m' → Stepped m line (Ok n) m'
+taken-line m line n m' ok w = record { refuses = λ bad. absurd (bad ok); answers = λ z. (n, refl, w) }
