@@ -1,7 +1,7 @@
 // Loads at the limits of a trigger, a graph, the memory and the room: what each is answered.
 #![tactic(auto)]
 
-use matching::{Answer, Firing};
+use matching::{Answer, Firing, Lists};
 use std::{array, io};
 
 // Whether the trigger fires, in a word.
@@ -55,21 +55,16 @@ fn attempt(
     session: &mut [u32],
     changes: &mut [i32],
 ) -> io::Result<()> {
-    show(
-        rt,
-        label,
-        matching::load(
-            session,
-            given.masks,
-            given.values,
-            given.links,
-            given.inverted,
-            given.samples,
-            given.starts,
-            given.ends,
-            changes,
-        ),
-    )
+    let lists = Lists {
+        masks: given.masks,
+        values: given.values,
+        links: given.links,
+        inverted: given.inverted,
+        samples: given.samples,
+        starts: given.starts,
+        ends: given.ends,
+    };
+    show(rt, label, matching::load(session, &lists, changes))
 }
 
 // The same with as much memory and room as there must be.
