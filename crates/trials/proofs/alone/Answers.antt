@@ -4,7 +4,6 @@ use Rattle.editing.specs.Steps.{fresh_among}
 use Rattle.refinement.proofs.Systems.{held_sound}
 use Rattle.session.proofs.Decoded.{layout-facts}
 use Rattle.session.specs.Layout.{trigger_of}
-use borrow.Author.Rules.{rules}
 use lib.ListN.{length, get_or}
 use mathlib.Core.Bool.{true, false}
 use mathlib.Core.List.{List}
@@ -40,11 +39,11 @@ loop-edge-preserved c =
     let is = c.edges_of-edges.ensures in
     λ i.
     alone-more a.session.now i a.start a.word k (c.loop-edge.invariant i)
-          (λ at-end.
-          elim c.if-edge-start.branch [
-            | then-edge-start+else-fresh_among w ↦ subst (λ (es : List ℕ). fresh_among a.session.now a.word (get_or es k 0 / max_nodes) ≡ false) is (sym w.fresh_among.ensures ∙ w.if-fresh_among.false)
-            | else-edge-start w ↦ absurd (w.if-edge-start.false (subst (λ (es : List ℕ). get_or es k 0 % max_nodes ≡ a.start) (sym is) at-end))
-          ])
+    (λ at-end.
+    elim c.if-edge-start.branch [
+      | then-edge-start+else-fresh_among w ↦ subst (λ (es : List ℕ). fresh_among a.session.now a.word (get_or es k 0 / max_nodes) ≡ false) is (sym w.fresh_among.ensures ∙ w.if-fresh_among.false)
+      | else-edge-start w ↦ absurd (w.if-edge-start.false (subst (λ (es : List ℕ). get_or es k 0 % max_nodes ≡ a.start) (sym is) at-end))
+    ])
 
 pub returns : goal.returns
 returns c =

@@ -1,12 +1,11 @@
 -- The trials are refined beside the marks, from every node that has one, to the end, since there is an index.
 use native.Mathlib.Omega.{arith}
-use mathlib.Core.Path.{refl, sym, ◌∙◌, ap}
+use mathlib.Core.Path.{refl, ◌∙◌, ap}
 use lib.ListN.{length, get_or, replicate}
-use lib.Seq.{length-take-le}
 use borrow.Author.Tests.{ne_eqb}
 use Rattle.simulation.proofs.Sets.{or_r, not_make}
 use Rattle.session.specs.Layout.{trigger_of}
-use Rattle.session.proofs.Decoded.{Bounded, layout_limits, layout-facts}
+use Rattle.session.proofs.Decoded.{layout-facts}
 use Rattle.worklist.specs.Waiting.{waits, waiting_words}
 use Rattle.pair_tables.proofs.Zeros.{zeros}
 use Rattle.refinement.proofs.Turns.{sound_below}
@@ -19,19 +18,8 @@ use Rattle.edge_indexes.specs.Indexes.{starts_size}
 use Rattle.trials.proofs.begin.Goals as goal
 use Rattle.trials.proofs.begin.Goals.{Start}
 
-abbrev bounded : (c : Start) → Bounded c.args.session.now
-bounded c = layout_limits c.args.session.now c.requires.session_value.0
-
-pub bounds-session-1 : goal.bounds-session-1
-bounds-session-1 c =
-    omega (arith, bounded (goal.at.bounds-session-1 c).Start)
-
-pub overflow_cast-nodes : goal.overflow_cast-nodes
-overflow_cast-nodes c =
-    omega (arith, bounded (goal.at.overflow_cast-nodes c).Start)
-
-pub starts_for-places-requires : goal.starts_for-places-requires
-starts_for-places-requires c =
+pub starts_for-firsts-requires : goal.starts_for-firsts-requires
+starts_for-firsts-requires c =
     let xs = c.args.session.now in
     let sound = held_sound xs c.requires.session_value.0 (trigger_of xs).links _ refl c.edges_of-edges.ensures in
     record {
@@ -44,31 +32,26 @@ index_callers-requires c =
     let f = (layout-facts c.args.session.now c.requires.session_value.0).trigger in
     (rw c.links_of-links.ensures (omega (arith, f.links, f.few)), refl, zeros set_bits)
 
-pub slice_bounds-refine-end-3 : goal.slice_bounds-refine-end-3
-slice_bounds-refine-end-3 c =
-    let f = c.starts_for-places in sym (length-take-le f.result f.new.firsts (omega (arith, f.ensures.0)))
+pub invariant_of-net : goal.invariant_of-net
+invariant_of-net c =
+    record {
+      sound = held_sound c.args.session.now c.requires.session_value.0 _ _ c.links_of-links.ensures c.edges_of-edges.ensures;
+      called = c.index_callers.ensures;
+      started = c.starts_for-firsts.ensures;
+      indexed = rw c.edges_of-edges.ensures c.requires.indexed;
+    }
 
 pub refine-requires : goal.refine-requires
 refine-requires c =
-    let xs = c.args.session.now in
-    let f = c.starts_for-places in record {
-      settled_len = (ap length c.marks_of.ensures ∙ marks-long xs c.requires.session_value.0, c.requires.session_value.1, c.call_all.ensures.0);
-      sound = (
-        held_sound xs c.requires.session_value.0 _ _ c.links_of-links.ensures c.edges_of-edges.ensures,
-        λ some. f.ensures.1 (λ none. some (length-take-le f.result f.new.firsts (omega (arith, f.ensures.0)) ∙ none)),
-        λ some. rw c.edges_of-edges.ensures c.requires.indexed,
-        λ some. c.index_callers.ensures,
-      );
-    }
+    (ap length c.marks_of.ensures ∙ marks-long c.args.session.now c.requires.session_value.0, c.requires.session_value.1, c.call_all.ensures.0)
 
 pub returns : goal.returns
 returns c =
     let xs = c.args.session.now in
     let r = c.refine.ensures in
     let sound = held_sound xs c.requires.session_value.0 _ _ c.links_of-links.ensures c.edges_of-edges.ensures in
-    let none = r.ended (λ none. omega (arith, none, c.requires.indexed.heads_long)) in
     let few = (layout-facts xs c.requires.session_value.0).counts.1 in
     trials-refined xs c.requires.session_value.0 _ _ c.links_of-links.ensures c.edges_of-edges.ensures _ _ _ _
-    (refining_end _ _ _ sound _ _ _ _ _ _ r.refining (rw none at r.lowest) (λ u v e. omega (arith, few, (c.requires.session_value.2 u v e).1)) c.requires.session_value.1)
+    (refining_end _ _ _ sound _ _ _ _ _ _ r.refining (rw r.ended at r.lowest) (λ u v e. omega (arith, few, (c.requires.session_value.2 u v e).1)) c.requires.session_value.1)
     c.requires.session_value.1 c.requires.session_value.2 c.marks_of.ensures
     (λ v some. c.call_all.ensures.1 v ∙ or_r (waits (replicate waiting_words 0) v) (not_make (ne_eqb (get_or c.args.table.now v 0) 0 some)))

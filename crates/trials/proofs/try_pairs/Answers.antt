@@ -1,29 +1,19 @@
 -- The seeds are fresh, and the trial set is grown from them.
 use native.Mathlib.Omega.{arith}
-use mathlib.Core.Path.{refl, ◌∙◌}
-use lib.ListN.{length-set, replicate}
-use Rattle.session.proofs.Decoded.{Bounded, LayoutFacts, layout_limits, layout-facts}
+use mathlib.Core.Path.{refl}
+use lib.ListN.{replicate}
+use Rattle.session.proofs.Decoded.{LayoutFacts, layout-facts}
 use Rattle.pair_tables.proofs.Zeros.{zeros}
 use Rattle.refinement.proofs.Systems.{held_sound}
 use Rattle.trials.proofs.Trying.{seeded, seeds-fit, trial-held}
 use Rattle.session.specs.Limits.{max_nodes}
 use Rattle.worklist.specs.Waiting.{waiting_words}
+use Rattle.bits.specs.Word.{set_bits}
 use Rattle.trials.proofs.try_pairs.Goals as goal
 use Rattle.trials.proofs.try_pairs.Goals.{Start}
 
-abbrev bounded : (c : Start) → Bounded c.args.session.now
-bounded c = layout_limits c.args.session.now c.requires.session_value.0
-
 abbrev facts : (c : Start) → LayoutFacts c.args.session.now
 facts c = layout-facts c.args.session.now c.requires.session_value.0
-
-pub bounds-session-1 : goal.bounds-session-1
-bounds-session-1 c =
-    omega (arith, bounded (goal.at.bounds-session-1 c).Start)
-
-pub overflow_cast-nodes : goal.overflow_cast-nodes
-overflow_cast-nodes c =
-    omega (arith, bounded (goal.at.overflow_cast-nodes c).Start)
 
 pub fresh_pairs-requires : goal.fresh_pairs-requires
 fresh_pairs-requires c =
@@ -37,24 +27,38 @@ pub bounds-table-start : goal.bounds-table-start
 bounds-table-start c =
     omega (arith, c.requires.session_value.1, c.requires.session_value.2, (facts (goal.at.bounds-table-start c).Start).graph.few)
 
-pub grow-requires : goal.grow-requires
-grow-requires c =
-    let a = c.args in
-    let f = facts (goal.at.grow-requires c).Start in
-    let fresh = c.fresh_pairs.ensures in record {
-      fresh_len = (fresh.long, length-set a.table.now a.start a.seeds ∙ c.requires.session_value.2, c.put_in.ensures.0);
-      sound = (held_sound a.session.now c.requires.session_value.0 _ _ c.links_of.ensures c.edges_of.ensures, rw c.edges_of.ensures c.requires.indexed.0);
-      by_index = λ u v e.
-          let i = fresh.inside u v e in
-          (rw c.links_of.ensures (omega (arith, i.0, f.trigger.links)), omega (arith, i.1, f.counts.1));
-      by_index_2 = seeds-fit a.session.now c.requires.session_value.0 a.start c.requires.indexed.1.0 a.seeds c.requires.session_value.1 c.requires.indexed.1.1 a.table.now c.requires.session_value.2 c.requires.session_value.3
-          c.fresh_pairs.new.table (replicate waiting_words 0) c.put_in.new.waiting fresh c.put_in.ensures.1;
+pub index_callers-requires : goal.index_callers-requires
+index_callers-requires c =
+    let f = (facts (goal.at.index_callers-requires c).Start).trigger in
+    (rw c.links_of-links.ensures (omega (arith, f.links, f.few)), refl, zeros set_bits)
+
+pub invariant_of-net : goal.invariant_of-net
+invariant_of-net c =
+    record {
+      sound = held_sound c.args.session.now c.requires.session_value.0 _ _ c.links_of-links.ensures c.edges_of.ensures;
+      called = c.index_callers.ensures;
+      started = tt;
+      indexed = rw c.edges_of.ensures c.requires.indexed.0;
     }
+
+pub grow-requires-clause-by_index : goal.grow-requires-clause-by_index
+grow-requires-clause-by_index c =
+    let f = facts (goal.at.grow-requires-clause-by_index c).Start in
+    λ u v e.
+    let i = c.fresh_pairs.ensures.inside u v e in
+    (rw c.links_of-links.ensures (omega (arith, i.0, f.trigger.links)), omega (arith, i.1, f.counts.1))
+
+pub grow-requires-clause-by_index_2 : goal.grow-requires-clause-by_index_2
+grow-requires-clause-by_index_2 c =
+    let a = c.args in
+    let fresh = c.fresh_pairs.ensures in
+    seeds-fit a.session.now c.requires.session_value.0 a.start c.requires.indexed.1.0 a.seeds c.requires.session_value.1 c.requires.indexed.1.1 a.table.now c.requires.session_value.2 c.requires.session_value.3
+    c.fresh_pairs.new.table (replicate waiting_words 0) c.put_in.new.waiting fresh c.put_in.ensures.1
 
 pub returns : goal.returns
 returns c =
     let a = c.args in
     λ b is.
-    trial-held a.session.now c.requires.session_value.0 a.start b _ _ _ _ _ c.links_of.ensures c.edges_of.ensures c.fresh_pairs.ensures
+    trial-held a.session.now c.requires.session_value.0 a.start b _ _ _ _ _ c.links_of-links.ensures c.edges_of.ensures c.fresh_pairs.ensures
     (seeded a.session.now c.requires.session_value.0 a.start b a.seeds c.requires.session_value.1 is a.table.now c.requires.session_value.2 c.requires.session_value.3)
     c.grow.ensures
