@@ -10,7 +10,7 @@ ghost use Rattle.editing.specs.Steps.{Begun, seeds_of, Saved, calm, tried};
 ghost use Rattle.promises.specs.Rules.{insertion, graph_rules, verdict};
 ghost use Rattle.promises.specs.Promises.{Done};
 
-use edge_indexes::index;
+use edge_indexes::{IncomingIndex, index};
 use edges::held::insert_edge;
 use links::linking;
 use pair_tables::{pairs_in, put_together};
@@ -26,9 +26,13 @@ pub fn try_grown(session: &Held, start: u32, seeds: u32, table: &mut [u32]) -> u
     let mut heads = [0u32; session::MAX_NODES];
     let mut nexts = [0u32; session::MAX_EDGES];
     index(session.edges(), &mut heads, &mut nexts);
-    try_pairs(session, start, seeds, &heads, &nexts, table);
+    let incoming = IncomingIndex {
+        heads: &heads,
+        nexts: &nexts,
+    };
+    try_pairs(session, start, seeds, incoming, table);
     let trials = pairs_in(table, session.states(), session.nodes());
-    begin(session, trials, &heads, &nexts, table);
+    begin(session, trials, incoming, table);
     trials
 }
 

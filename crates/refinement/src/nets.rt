@@ -8,12 +8,12 @@ ghost use Rattle.refinement.specs.Refining.{Sound};
 use edge_indexes::IncomingIndex;
 
 #[derive(Clone, Copy)]
-pub struct Net<'a> {
+pub struct Net<'a, 't> {
     pub links: &'a [u32],
     pub edges: &'a [u32],
     pub nodes: usize,
-    pub callers: Option<&'a [u32]>,
-    pub firsts: Option<&'a [u32]>,
+    pub callers: Option<&'t [u32]>,
+    pub firsts: Option<&'t [u32]>,
     pub incoming: Option<IncomingIndex<'a>>,
     pub ghost sound: { Sound nodes links.now edges.now },
     pub ghost called: { IfSome callers (λ table. Callers links.now table.now) } by { Prim.hlevel props },

@@ -1,7 +1,7 @@
 // The trial set of an insertion: its seeds, whether they are the whole of it, its growth from them, and which of its pairs begin to stand.
 #![tactic(auto)]
 
-ghost use Rattle.std.specs.Prelude.{◌≡◌, true, ℕ, ◌<◌, ◌≤◌, length, get_or, take};
+ghost use Rattle.std.specs.Prelude.{◌≡◌, true, ℕ, ◌<◌, ◌≤◌, length, get_or, IfSome};
 ghost use Rattle.bits.specs.Word.{members};
 ghost use Rattle.session.specs.Limits.{max_nodes, max_edges, edge_numbers};
 ghost use Rattle.session.specs.Trigger.{nodes, pattern};
@@ -16,11 +16,12 @@ ghost use Rattle.pair_tables.specs.Tables.{marked};
 ghost use Rattle.session_parts.specs.Inside.{Inside};
 ghost use Rattle.session_parts.specs.Admission.{turned_in};
 
-use edge_indexes::{STARTS, index_starts};
+use edge_indexes::{IncomingIndex, STARTS, index_starts};
 use editing::refine_at;
 use growth::grow;
 use links::{CALLERS, index_callers, linking};
 use pair_tables::take_away;
+use refinement::nets::Net;
 use refinement::refine;
 use session_parts::Held;
 use worklist::{WAITING_WORDS, call_all, put_in};
@@ -48,16 +49,15 @@ pub fn fresh_pairs(session: &Held, table: &mut [u32])
 }
 
 // Puts the trial set that the seeds begin into a table that is zero.
-pub fn try_pairs(
-    session: &Held,
+pub fn try_pairs<'a>(
+    session: &Held<'a>,
     start: u32,
     seeds: u32,
-    heads: &[u32],
-    nexts: &[u32],
+    index: IncomingIndex<'a>,
     table: &mut [u32],
 )
     requires session_value { (start < nodes (graph_of session.now)) × (length table.old ≡ max_nodes) × ((v : ℕ) → get_or table.old v 0 ≡ 0) }
-    requires indexed { Indexed (graph_of session.now).edges heads.now nexts.now × ((b : ℕ) × (members seeds ≡ seeds_of session.now start b)) }
+    requires indexed { Indexed (graph_of session.now).edges index.heads.now index.nexts.now × ((b : ℕ) × (members seeds ≡ seeds_of session.now start b)) }
     ensures { (b : ℕ) → members seeds ≡ seeds_of session.now start b → Holds session.now (trial_set (trigger_of session.now) (graph_of session.now) (marks_of session.now) start b) table.new }
 {
     let nodes = session.nodes();
@@ -66,16 +66,19 @@ pub fn try_pairs(
     let mut waiting = [0u32; WAITING_WORDS];
     put_in(&mut waiting, start as usize);
     table[start as usize] = seeds;
-    grow(
-        session.links(),
-        session.edges(),
+    let links = session.links();
+    let mut callers = [0u32; CALLERS];
+    index_callers(links, &mut callers);
+    let incoming = Some(index);
+    let net = Net {
+        links,
+        edges: session.edges(),
         nodes,
-        &fresh,
-        table,
-        &mut waiting,
-        heads,
-        nexts,
-    );
+        callers: Some(&callers),
+        firsts: None,
+        incoming,
+    };
+    grow(&net, index, &fresh, table, &mut waiting);
 }
 
 // Whether a state of the word is fresh at the node.
@@ -107,46 +110,44 @@ pub fn alone(session: &Held, start: u32, word: u32) -> bool
 // Up to this many trials the looks are few, and halving costs less than an index of all nodes.
 pub const FEW: u32 = 32;
 
-// Builds the index of first edges, in a table that is zero, where there are more than a few trials; how many places it has.
-pub fn starts_for(trials: u32, edges: &[u32], firsts: &mut [u32]) -> usize
+// Builds the index of first edges, in a table that is zero, where there are more than a few trials.
+pub fn starts_for<'a>(trials: u32, edges: &[u32], firsts: &'a mut [u32]) -> Option<&'a [u32]>
     requires edges_len_bound { (length edges.now ≤ max_edges) × (ascends edges.now ≡ true) × (below edge_numbers edges.now ≡ true) × (length firsts.old ≡ starts_size) }
     requires by_index { (v : ℕ) → get_or firsts.old v 0 ≡ 0 }
-    ensures { (result ≤ starts_size) × ((result ≡ 0 → ⊥) → Started edges.now (take result firsts.new)) }
+    ensures { IfSome result (λ index. Started edges.now index.now) }
 {
     if trials <= FEW {
-        return 0;
+        return None;
     }
     index_starts(edges, firsts);
-    STARTS
+    Some(firsts)
 }
 
 // Refines a table of trials beside the marks: what is left begins to stand. Their number only decides whether an index is built.
-pub fn begin(session: &Held, trials: u32, heads: &[u32], nexts: &[u32], table: &mut [u32])
+pub fn begin<'a>(session: &Held<'a>, trials: u32, index: IncomingIndex<'a>, table: &mut [u32])
     requires session_value { (length table.old ≡ max_nodes) × Inside session.now table.old }
-    requires indexed { Indexed (graph_of session.now).edges heads.now nexts.now }
+    requires indexed { Indexed (graph_of session.now).edges index.heads.now index.nexts.now }
     ensures { Holds session.now (refined (system (pattern (trigger_of session.now) (graph_of session.now))) (marked_pairs session.now) (pairs_of (trigger_of session.now) (graph_of session.now) (marked table.old))) table.new }
 {
     let nodes = session.nodes();
     let mut waiting = [0u32; WAITING_WORDS];
     call_all(table, &mut waiting);
     let edges = session.edges();
-    let mut firsts = [0u32; STARTS];
-    let places = starts_for(trials, edges, &mut firsts);
+    let mut starts = [0u32; STARTS];
+    let firsts = starts_for(trials, edges, &mut starts);
     let links = session.links();
     let mut callers = [0u32; CALLERS];
     index_callers(links, &mut callers);
-    refine(
+    let incoming = Some(index);
+    let net = Net {
         links,
         edges,
         nodes,
-        session.marks(),
-        table,
-        &mut waiting,
-        &callers,
-        &firsts[..places],
-        heads,
-        nexts,
-    );
+        callers: Some(&callers),
+        firsts,
+        incoming,
+    };
+    refine(&net, session.marks(), table, &mut waiting);
 }
 
 // Refines trials that are all at one node beside the marks: what is left begins to stand.
