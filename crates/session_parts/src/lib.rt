@@ -59,21 +59,21 @@ impl<'a> Held<'a> {
         self.words[1] as usize
     }
 
-    pub fn masks(&self) -> &'a [u32]
+    pub fn masks(&self) -> &[u32]
         ensures is { result.now ≡ (trigger_of self.now).masks }
         ensures held { in_layout self.now ≡ true }
     {
         part_of(self.words, session::MASKS_AT, self.words[0] as usize)
     }
 
-    pub fn values(&self) -> &'a [u32]
+    pub fn values(&self) -> &[u32]
         ensures is { result.now ≡ (trigger_of self.now).values }
         ensures held { in_layout self.now ≡ true }
     {
         part_of(self.words, session::VALUES_AT, self.words[0] as usize)
     }
 
-    pub fn links(&self) -> &'a [u32]
+    pub fn links(&self) -> &[u32]
         ensures is { result.now ≡ (trigger_of self.now).links }
         ensures held { in_layout self.now ≡ true }
     {
@@ -88,14 +88,14 @@ impl<'a> Held<'a> {
         self.words[session::INVERTED_AT]
     }
 
-    pub fn samples(&self) -> &'a [u32]
+    pub fn samples(&self) -> &[u32]
         ensures is { result.now ≡ (graph_of self.now).samples }
         ensures held { in_layout self.now ≡ true }
     {
         part_of(self.words, session::SAMPLES_AT, self.words[1] as usize)
     }
 
-    pub fn edges(&self) -> &'a [u32]
+    pub fn edges(&self) -> &[u32]
         ensures is { result.now ≡ (graph_of self.now).edges }
         ensures held { in_layout self.now ≡ true }
     {
@@ -111,7 +111,7 @@ impl<'a> Held<'a> {
     }
 
     // The mark words, a word for each node.
-    pub fn marks(&self) -> &'a [u32]
+    pub fn marks(&self) -> &[u32]
         ensures is { result.now ≡ take max_nodes (drop marks_at self.now) }
         ensures held { in_layout self.now ≡ true }
     {

@@ -50,7 +50,7 @@ pub fn fresh_pairs(session: &Held, table: &mut [u32])
 
 // Puts the trial set that the seeds begin into a table that is zero.
 pub fn try_pairs<'a>(
-    session: &Held<'a>,
+    session: &'a Held,
     start: u32,
     seeds: u32,
     index: IncomingIndex<'a>,
@@ -124,7 +124,7 @@ pub fn starts_for<'a>(trials: u32, edges: &[u32], firsts: &'a mut [u32]) -> Opti
 }
 
 // Refines a table of trials beside the marks: what is left begins to stand. Their number only decides whether an index is built.
-pub fn begin<'a>(session: &Held<'a>, trials: u32, index: IncomingIndex<'a>, table: &mut [u32])
+pub fn begin<'a>(session: &'a Held, trials: u32, index: IncomingIndex<'a>, table: &mut [u32])
     requires session_value { (length table.old ≡ max_nodes) × Inside session.now table.old }
     requires indexed { Indexed (graph_of session.now).edges index.heads.now index.nexts.now }
     ensures { Holds session.now (refined (system (pattern (trigger_of session.now) (graph_of session.now))) (marked_pairs session.now) (pairs_of (trigger_of session.now) (graph_of session.now) (marked table.old))) table.new }
