@@ -19,6 +19,7 @@ use session_parts::{edges_of, links_of, marks_of, store_marks};
 use trials::{alone, begin, begin_at, seeds_at, try_pairs};
 
 // The trial set is grown from the seeds in a table that is zero, by an index that serves its refinement too; how many pairs it has.
+#[tactic(auto, using(session::proofs::Decoded::layout_limits))]
 pub fn try_grown(session: &[u32], start: u32, seeds: u32, table: &mut [u32]) -> u32
     requires session_value { (in_layout session.now ≡ true) × (start < nodes (graph_of session.now)) × (length table.old ≡ max_nodes) × ((v : ℕ) → get_or table.old v 0 ≡ 0) }
     requires by_index { (b : ℕ) × (members seeds ≡ seeds_of session.now start b) }

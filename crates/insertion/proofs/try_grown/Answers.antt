@@ -22,18 +22,6 @@ tried : (c : After-try_pairs)
     Holds xs (trial_set (trigger_of xs) (graph_of xs) (marks_of xs) c.args.start c.requires.by_index.0) c.try_pairs.new.table
 tried c = c.try_pairs.ensures c.requires.by_index.0 c.requires.by_index.1
 
-pub bounds-session-0 : goal.bounds-session-0
-bounds-session-0 c =
-    omega (arith, bounded (goal.at.bounds-session-0 c).Start)
-
-pub bounds-session-1 : goal.bounds-session-1
-bounds-session-1 c =
-    omega (arith, bounded (goal.at.bounds-session-1 c).Start)
-
-pub overflow_cast-nodes : goal.overflow_cast-nodes
-overflow_cast-nodes c =
-    omega (arith, bounded (goal.at.overflow_cast-nodes c).Start)
-
 pub index-requires : goal.index-requires
 index-requires c =
     rw c.edges_of.ensures (record {
