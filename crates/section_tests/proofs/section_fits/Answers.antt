@@ -2,16 +2,12 @@
 use Prim.Native.Nat.{◌-◌}
 use borrow.Author.Rules.{rules}
 use native.Mathlib.Omega.{arith}
-use mathlib.Core.Path.{◌≡◌, sym, ◌∙◌}
+use mathlib.Core.Path.{◌≡◌, ◌∙◌}
 use lib.ListN.{length, take, drop, length-drop}
-use lib.Seq.{length-take-le, take_all}
+use lib.Seq.{take_all}
 use Rattle.session.proofs.Tables.{fits_gathered}
 use Rattle.bits.specs.Word.{set_bits}
 use Rattle.section_tests.proofs.section_fits.Goals as goal
-
-pub slice_bounds-gathered-end : goal.slice_bounds-gathered-end
-slice_bounds-gathered-end c =
-    sym (length-take-le c.args.used c.args.place.now c.requires.0)
 
 pub returns : goal.returns
 returns c =
