@@ -2,6 +2,7 @@
 #![tactic(auto)]
 
 ghost use Rattle.std.specs.Prelude.{◌≡◌};
+ghost use Rattle.promises.specs.Answers.{first_broken};
 ghost use Rattle.promises.specs.Rules.{verdict};
 ghost use Rattle.frames.specs.Machine.{memory};
 ghost use Rattle.frames.specs.Blocks as b;
@@ -9,8 +10,10 @@ ghost use Rattle.frames.specs.Blocks as b;
 use frame_machine::{OUTPUT_SIZE, answer_line, memory_rule};
 use frames::Progress;
 use line_gathering::{KEPT, gather, within};
+use promises::Refusal;
 
-// The first rule that the lent memory breaks, or 0.
+// The first rule that the lent memory breaks.
+#[tactic(auto, unfolding(promises::specs::Rules::verdict))]
 fn input_rule(
     counts: &[u32],
     words: &[u16],
@@ -18,11 +21,11 @@ fn input_rule(
     changes: &[i32],
     front: &[u8],
     out: &[u8],
-) -> u8
-    ensures { result ≡ verdict (b.input_rules (memory counts.now words.now session.now changes.now out.now) front.now) }
+) -> Result<(), Refusal>
+    ensures { first_broken result ≡ verdict (b.input_rules (memory counts.now words.now session.now changes.now out.now) front.now) }
 {
     if front.len() < KEPT {
-        return 3;
+        return Err(Refusal::MemoryShort);
     }
     memory_rule(counts, words, session, changes, out)
 }
@@ -40,7 +43,7 @@ fn pass_over(
     out: &mut [u8],
 ) -> Progress
     requires { verdict (b.input_rules (memory counts.old words.old session.old changes.old out.old) front.old) ≡ 0 }
-    ensures { (result.rule ≡ 0) × b.Passes block.now (b.point front.old begun 0 0 (memory counts.old words.old session.old changes.old out.old)) (b.point front.new result.begun result.at result.written (memory counts.new words.new session.new changes.new out.new)) }
+    ensures { b.Passes block.now (b.point front.old begun 0 0 (memory counts.old words.old session.old changes.old out.old)) (b.point front.new result.begun result.at result.written (memory counts.new words.new session.new changes.new out.new)) }
 {
     let mut at = 0;
     let mut line = begun;
@@ -63,7 +66,6 @@ fn pass_over(
         }
     }
     Progress {
-        rule: 0,
         written,
         at,
         begun: line,
@@ -81,19 +83,13 @@ pub fn answer_block(
     begun: usize,
     block: &[u8],
     out: &mut [u8],
-) -> Progress
+) -> Result<Progress, Refusal>
     ensures { b.BlockTaken (memory counts.old words.old session.old changes.old out.old) front.old begun block.now result (memory counts.new words.new session.new changes.new out.new) front.new }
 {
-    let rule = input_rule(counts, words, session, changes, front, out);
-    if rule != 0 {
-        return Progress {
-            rule,
-            written: 0,
-            at: 0,
-            begun,
-        };
-    }
-    pass_over(counts, words, session, changes, front, begun, block, out)
+    input_rule(counts, words, session, changes, front, out)?;
+    Ok(pass_over(
+        counts, words, session, changes, front, begun, block, out,
+    ))
 }
 
 // Answers the line that the input's end ends, if one was begun.
@@ -105,32 +101,22 @@ pub fn answer_end(
     front: &[u8],
     begun: usize,
     out: &mut [u8],
-) -> Progress
+) -> Result<Progress, Refusal>
     ensures { b.InputEnded (memory counts.old words.old session.old changes.old out.old) front.now begun result (memory counts.new words.new session.new changes.new out.new) }
 {
-    let rule = input_rule(counts, words, session, changes, front, out);
-    if rule != 0 {
-        return Progress {
-            rule,
-            written: 0,
-            at: 0,
-            begun,
-        };
-    }
+    input_rule(counts, words, session, changes, front, out)?;
     if begun == 0 {
-        return Progress {
-            rule: 0,
+        return Ok(Progress {
             written: 0,
             at: 0,
             begun: 0,
-        };
+        });
     }
     let used = within(front, begun);
     let written = answer_line(counts, words, session, changes, &front[..used], out);
-    Progress {
-        rule: 0,
+    Ok(Progress {
         written,
         at: 0,
         begun: 0,
-    }
+    })
 }

@@ -3,13 +3,14 @@
 
 ghost use Rattle.std.specs.Prelude.{◌≡◌, ◌||◌, ltb};
 ghost use Rattle.session.specs.Limits.{max_states, max_nodes, fixed_size, max_changes};
+ghost use Rattle.promises.specs.Answers.{first_broken};
 ghost use Rattle.promises.specs.Rules.{verdict};
 ghost use Rattle.frames.specs.Machine as m;
 
 use frame_reading::read_frame;
-use frames::Taken;
 use frames_after_run::after_run;
 use frames_before_run::{LINKS_IN, SAMPLES_IN, before_run};
+use promises::Refusal;
 
 // How long the lent memory is at least.
 pub const COUNTS_SIZE: usize = LINKS_IN + session::MAX_STATES;
@@ -34,15 +35,16 @@ pub fn miscounted(moment: u32, states: u32, nodes: u32) -> bool
     1 < moment || ((session::MAX_STATES as u32) < states || (session::MAX_NODES as u32) < nodes)
 }
 
-// The first rule that the lent memory breaks, or 0.
+// The first rule that the lent memory breaks.
+#[tactic(auto, unfolding(promises::specs::Rules::verdict))]
 pub fn memory_rule(
     counts: &[u32],
     words: &[u16],
     session: &[u32],
     changes: &[i32],
     out: &[u8],
-) -> u8
-    ensures { result ≡ verdict (m.memory_rules (m.memory counts.now words.now session.now changes.now out.now)) }
+) -> Result<(), Refusal>
+    ensures { first_broken result ≡ verdict (m.memory_rules (m.memory counts.now words.now session.now changes.now out.now)) }
 {
     if too_small(
         counts.len(),
@@ -51,12 +53,12 @@ pub fn memory_rule(
         changes.len(),
         out.len(),
     ) {
-        return 3;
+        return Err(Refusal::MemoryShort);
     }
     if miscounted(counts[0], counts[1], counts[2]) {
-        return 10;
+        return Err(Refusal::NotInLayout);
     }
-    0
+    Ok(())
 }
 
 // Answers a line in memory that breaks none of its own rules: the lines of its answer are put at the front of the output.
@@ -87,12 +89,9 @@ pub fn take_line(
     changes: &mut [i32],
     line: &[u8],
     out: &mut [u8],
-) -> Taken
+) -> Result<usize, Refusal>
     ensures { m.Stepped (m.memory counts.old words.old session.old changes.old out.old) line.now result (m.memory counts.new words.new session.new changes.new out.new) }
 {
-    let rule = memory_rule(counts, words, session, changes, out);
-    if rule != 0 {
-        return Taken::Refused(rule);
-    }
-    Taken::Written(answer_line(counts, words, session, changes, line, out))
+    memory_rule(counts, words, session, changes, out)?;
+    Ok(answer_line(counts, words, session, changes, line, out))
 }

@@ -11,9 +11,7 @@ use Rattle.session.specs.Trigger.{Trigger, Graph, Marks, states, nodes}
 use Rattle.session.specs.Layout.{trigger_of, graph_of, marks_of}
 use Rattle.session.proofs.Decoded.{layout-facts}
 use Rattle.listing.specs.Changes.{changes}
-use Rattle.promises.specs.declared.Answer.{Answer}
-use Rattle.promises.specs.declared.StateOrder.{StateOrder}
-use Rattle.promises.specs.Answers.{accepted, outcome, told, told_order, changes_told, handed_back}
+use Rattle.promises.specs.Answers.{Answer, OrderAnswer, accepted, outcome, told, told_order, changes_told, handed_back}
 use Rattle.promises.specs.Rules.{Kind, Given, given_trigger, given_graph, edited, verdict, load_rules, edit_rules, question_rules}
 use Rattle.promises.specs.Promises.{Reported, Loaded, Edited, Ordered}
 use Rattle.promises.proofs.Counted.{list-few}
@@ -58,7 +56,7 @@ edited-few k s a b c r s' c' p =
     (λ bad. refused-few c' r (ap changes_told (p.refuses bad).answer))
     (accepts-or (verdict (edit_rules k s (length c) a b)))
 
-pub ordered-few : (s : List ℕ) (r : StateOrder) (n : ℕ) → Ordered s r → told_order r.answer ≡ accepted n → n ≤ max_states
+pub ordered-few : (s : List ℕ) (r : OrderAnswer) (n : ℕ) → Ordered s r → told_order r ≡ accepted n → n ≤ max_states
 ordered-few s r n p says =
     let v = verdict (question_rules s []) in
     let st = states (trigger_of s) in

@@ -8,11 +8,11 @@ use mathlib.Core.List.{List, [], ◌∷◌, ◌++◌, map, append-nil, append_as
 use lib.IntN.{ℤ}
 use lib.ListN.{length, take, drop, length-take, length-drop, drop_of_length-le}
 use lib.Seq.{take_all, length-take-le, take-append-add, drop-drop, drop-length}
+use Rattle.std.specs.Prelude.{Ok}
 use Rattle.session.specs.Limits.{max_changes}
+use Rattle.promises.specs.Answers.{first_broken}
 use Rattle.promises.specs.Rules.{verdict}
 use Rattle.promises.proofs.Verdicts.{accepts-or}
-use Rattle.frames.specs.declared.Progress.{Progress}
-use Rattle.frames.specs.declared.Taken.TheVariants as T
 use Rattle.frames.specs.Frames.{Frame, frame_of}
 use Rattle.frames.specs.Lines.{lines_after, line_in, front_size, Gathers}
 use Rattle.frames.specs.Outputs.{each}
@@ -20,7 +20,7 @@ use Rattle.frames.specs.Machine.{Memory, output_size, Stepped}
 use Rattle.frames.specs.Moments.{start, program}
 use Rattle.frames.specs.Moments as moments
 use Rattle.frames.specs.Program.{Line, lent, LineByLine, ended, taken, printed_by, bytes_of, Fresh}
-use Rattle.frames.specs.Blocks.{input_rules, Point, point, output_after, with_output, GoesOn, Passes, stops, begins, answers, BlockTaken, InputEnded, InputCalls, block, again, end, Leads, InputAnswered}
+use Rattle.frames.specs.Blocks.{input_rules, Reached, written_of, at_of, begun_of, Point, point, output_after, with_output, GoesOn, Passes, stops, begins, answers, BlockTaken, InputEnded, InputCalls, block, again, end, Leads, InputAnswered}
 use Rattle.frames.proofs.Fronts.{Like, like_frame, like_more, keeps-front, keeps-long, line_open, lines_open, lines-ended}
 use Rattle.frames.proofs.Takes.{rules-passed, passed-rules}
 use Rattle.frames.proofs.Passing.{input_passed, unrefused}
@@ -41,7 +41,7 @@ lend m room out [] ended = ended
 lend m room out (l ∷ ls) (taken wide long s more) = taken wide long s more
 
 -- a memory that a line was answered in was long enough
-fitting : (m : Memory) (line : List ℕ) (n : ℕ) (left : Memory) → Stepped m line (T.Written n) left
+fitting : (m : Memory) (line : List ℕ) (n : ℕ) (left : Memory) → Stepped m line (Ok n) left
     → (max_changes ≤ length m.room) × (output_size ≤ length m.out)
 fitting m line n left s = let p = rules-passed m (unrefused m line n left s) in (p.room, p.out)
 
@@ -82,13 +82,13 @@ module _ (bytes more output : List ℕ) where
 
     -- a line ends
     from-line : (n : ℕ) (left : Memory) → GoesOn bytes p → Gathers p.front p.begun bytes p.at front' begun' at' true
-        → Stepped (output_after p.written p.memory) (take begun' front') (T.Written n) left
+        → Stepped (output_after p.written p.memory) (take begun' front') (Ok n) left
         → From (point front' 0 at' (p.written + n) (with_output (take p.written p.memory.out) left)) [] → From p begun
     unfolding each
     from-line n left on g s t =
         let m = p.memory in
         let l : Line =
-        record { bytes = take begun' front'; room = m.room; out = drop p.written m.out; answer = T.Written n; left = left } in
+        record { bytes = take begun' front'; room = m.room; out = drop p.written m.out; answer = Ok n; left = left } in
         let fit = fitting (output_after p.written m) (take begun' front') n left s in
         let ls = t.taken_lines in
         let long : length (take p.written m.out) ≡ p.written = length-take-le p.written m.out (omega (arith, on.1)) in
@@ -124,23 +124,23 @@ module _ (bytes more output : List ℕ) where
 -- ---- the calls one after the other
 
 module _ (m : Memory) (begun input output : List ℕ) (room : List ℤ) (out front : List ℕ) (used : ℕ) (bytes more : List ℕ)
-    (r : Progress) (m' : Memory) (front' : List ℕ) (begun-is : take used front ≡ begun) (input-is : bytes ++ more ≡ input)
+    (r : Reached) (m' : Memory) (front' : List ℕ) (begun-is : take used front ≡ begun) (input-is : bytes ++ more ≡ input)
     (t : BlockTaken (lent m room out) front used bytes r m' front')
-    (then : (line' : List ℕ) → Like (take r.begun front') line' → Taking m' line' (drop r.at bytes ++ more) [] output)
+    (then : (line' : List ℕ) → Like (take (begun_of used r) front') line' → Taking m' line' (drop (at_of r) bytes ++ more) [] output)
     (line : List ℕ) (like : Like begun line) where
   abbrev mine : Memory
   mine = lent m room out
 
   abbrev all : List ℕ
-  all = take r.written m'.out ++ output
+  all = take (written_of r) m'.out ++ output
 
-  block-carried : verdict (input_rules (lent m room out) front) ≡ 0 → Taking m line input [] (take r.written m'.out ++ output)
+  block-carried : verdict (input_rules (lent m room out) front) ≡ 0 → Taking m line input [] (take (written_of r) m'.out ++ output)
   block-carried ok =
       let w =
       pass_takes bytes more all (t.passes ok).1 line (subst (λ (x : List ℕ). Like x line) (sym begun-is) like) (input_passed mine front ok).1
       (λ line' k.
       let n = then line' k in
-      record { taken_lines = n.taken_lines; goes = n.goes; prints = ap (λ (x : List ℕ). take r.written m'.out ++ x) n.prints; frames = n.frames }) in
+      record { taken_lines = n.taken_lines; goes = n.goes; prints = ap (λ (x : List ℕ). take (written_of r) m'.out ++ x) n.prints; frames = n.frames }) in
       record {
         taken_lines = w.taken_lines;
         goes = lend m room out w.taken_lines w.goes;
@@ -148,10 +148,10 @@ module _ (m : Memory) (begun input output : List ℕ) (room : List ℤ) (out fro
         frames = w.frames ∙ ap (λ (x : List ℕ). map frame_of (lines_after line x)) input-is;
       }
 
-  block_refused : (verdict (input_rules (lent m room out) front) ≡ 0 → ⊥) → Taking m line input [] (take r.written m'.out ++ output)
+  block_refused : (verdict (input_rules (lent m room out) front) ≡ 0 → ⊥) → Taking m line input [] (take (written_of r) m'.out ++ output)
   block_refused bad =
       let u = t.refuses bad in
-      let same : take r.begun front' ≡ begun = ap₂ take u.0.3 u.2 ∙ begun-is in
+      let same : take (begun_of used r) front' ≡ begun = ap₂ take u.0.3 u.2 ∙ begun-is in
       let n = then line (subst (λ (x : List ℕ). Like x line) (sym same) like) in
       record {
         taken_lines = n.taken_lines;
@@ -162,7 +162,7 @@ module _ (m : Memory) (begun input output : List ℕ) (room : List ℤ) (out fro
             ∙ ap (λ (x : List ℕ). map frame_of (lines_after line x)) input-is;
       }
 
-  block_takes : Taking m line input [] (take r.written m'.out ++ output)
+  block_takes : Taking m line input [] (take (written_of r) m'.out ++ output)
   block_takes = ⊎_elim block-carried block_refused (accepts-or (verdict (input_rules mine front)))
 
 -- a line that was begun is the last one
@@ -171,10 +171,10 @@ unfolding lines_after
 last_line [] h = absurd (omega arith)
 last_line (c ∷ cs) h = refl
 
-module _ (m : Memory) (begun : List ℕ) (room : List ℤ) (out front : List ℕ) (used : ℕ) (r : Progress) (m' : Memory)
+module _ (m : Memory) (begun : List ℕ) (room : List ℤ) (out front : List ℕ) (used : ℕ) (r : Reached) (m' : Memory)
     (begun-is : take used front ≡ begun) (t : InputEnded (lent m room out) front used r m') (ok : verdict (input_rules (lent m room out) front) ≡ 0)
     (line : List ℕ) (like : Like begun line) where
-  end_none : used ≡ 0 → Taking m line [] [] (take r.written m'.out)
+  end_none : used ≡ 0 → Taking m line [] [] (take (written_of r) m'.out)
   unfolding each lines_after
   end_none z =
       let none : begun ≡ [] = sym begun-is ∙ ap (λ (k : ℕ). take k front) z in
@@ -186,37 +186,37 @@ module _ (m : Memory) (begun : List ℕ) (room : List ℤ) (out front : List ℕ
         frames = ap (λ (x : List ℕ). map frame_of (lines_after x [])) (sym empty);
       }
 
-  end_line : 0 < used → Taking m line [] [] (take r.written m'.out)
+  end_line : 0 < used → Taking m line [] [] (take (written_of r) m'.out)
   unfolding each
   end_line some =
       let mine = lent m room out in
-      let l : Line = record { bytes = take used front; room = room; out = out; answer = T.Written r.written; left = m' } in
-      let s : Stepped mine (take used front) (T.Written r.written) m' =
-      record { refuses = λ bad. absurd (bad (passed-rules mine (input_passed mine front ok).0)); answers = λ z. (r.written, refl, t.line ok some) } in
-      let fit = fitting mine (take used front) r.written m' s in
+      let l : Line = record { bytes = take used front; room = room; out = out; answer = Ok (written_of r); left = m' } in
+      let s : Stepped mine (take used front) (Ok (written_of r)) m' =
+      record { refuses = λ bad. absurd (bad (passed-rules mine (input_passed mine front ok).0)); answers = λ z. ((written_of r), refl, t.line ok some) } in
+      let fit = fitting mine (take used front) (written_of r) m' s in
       let long : 0 < length line =
       ⊎_elim (λ e. omega (arith, ap length e, ap length begun-is, length-take used front, (input_passed mine front ok).1)) (λ l. omega (arith, l.1)) like in
       record {
         taken_lines = l ∷ [];
         goes = taken fit.0 fit.1 s ended;
-        prints = append-nil (take r.written m'.out);
+        prints = append-nil (take (written_of r) m'.out);
         frames =
             ap (λ (x : Frame). x ∷ []) (ap frame_of begun-is ∙ like_frame begun line like) ∙ ap (map frame_of) (sym (last_line line long));
       }
 
-  end_takes : Taking m line [] [] (take r.written m'.out)
+  end_takes : Taking m line [] [] (take (written_of r) m'.out)
   end_takes = ⊎_elim end_none (λ some. end_line (omega (arith, some))) (accepts-or used)
 
 -- the end that is not refused
-end-passed : (m : Memory) (front : List ℕ) (used : ℕ) (r : Progress) (m' : Memory) → InputEnded m front used r m' → r.rule ≡ 0
+end-passed : (m : Memory) (front : List ℕ) (used : ℕ) (r : Reached) (m' : Memory) → InputEnded m front used r m' → first_broken r ≡ 0
     → verdict (input_rules m front) ≡ 0
 end-passed m front used r m' t told =
     ⊎_elim (λ ok. ok) (λ bad. absurd (bad (sym (t.refuses bad).0.0 ∙ told))) (accepts-or (verdict (input_rules m front)))
 
 -- one that is refused takes nothing and prints nothing
-again_takes : (m : Memory) (input output : List ℕ) (room : List ℤ) (out front : List ℕ) (used : ℕ) (r : Progress) (m' : Memory) (line : List ℕ)
-    → InputEnded (lent m room out) front used r m' → (r.rule ≡ 0 → ⊥) → Taking m' line input [] output
-    → Taking m line input [] (take r.written m'.out ++ output)
+again_takes : (m : Memory) (input output : List ℕ) (room : List ℤ) (out front : List ℕ) (used : ℕ) (r : Reached) (m' : Memory) (line : List ℕ)
+    → InputEnded (lent m room out) front used r m' → (first_broken r ≡ 0 → ⊥) → Taking m' line input [] output
+    → Taking m line input [] (take (written_of r) m'.out ++ output)
 again_takes m input output room out front used r m' line t some n =
     let u = t.refuses (λ ok. some (t.told ok).0) in
     record {
@@ -267,18 +267,18 @@ Within m begun bytes out m' begun' at =
 pub within-start : (m : Memory) (begun bytes : List ℕ) → Within m begun bytes [] m begun 0
 within-start m begun bytes _ _ c = c
 
-pub within_step : (m : Memory) (begun bytes out : List ℕ) (m₁ : Memory) (front : List ℕ) (used at : ℕ) (r : Progress) (m₂ : Memory) (front' : List ℕ)
+pub within_step : (m : Memory) (begun bytes out : List ℕ) (m₁ : Memory) (front : List ℕ) (used at : ℕ) (r : Reached) (m₂ : Memory) (front' : List ℕ)
     → Within m begun bytes out m₁ (take used front) at → BlockTaken m₁ front used (take (length bytes - at) (drop at bytes)) r m₂ front'
-    → Within m begun bytes (out ++ take r.written m₂.out) m₂ (take r.begun front') (at + r.at)
+    → Within m begun bytes (out ++ take (written_of r) m₂.out) m₂ (take (begun_of used r) front') (at + at_of r)
 within_step m begun bytes out m₁ front used at r m₂ front' w t more rest c =
     let part : take (length bytes - at) (drop at bytes) ≡ drop at bytes =
     take_all (length bytes - at) (drop at bytes) (omega (arith, length-drop at bytes)) in
     let t' : BlockTaken m₁ front used (drop at bytes) r m₂ front' =
     subst (λ (b : List ℕ). BlockTaken m₁ front used b r m₂ front') part t in
-    rw (append_assoc out (take r.written m₂.out) rest)
-    (w more (take r.written m₂.out ++ rest)
+    rw (append_assoc out (take (written_of r) m₂.out) rest)
+    (w more (take (written_of r) m₂.out ++ rest)
     (block m₁.room m₁.out front used (drop at bytes) more r m₂ front' refl refl t'
-    (subst (λ (b : List ℕ). InputCalls m₂ (take r.begun front') (b ++ more) rest) (sym (drop-drop r.at at bytes)) c)))
+    (subst (λ (b : List ℕ). InputCalls m₂ (take (begun_of used r) front') (b ++ more) rest) (sym (drop-drop (at_of r) at bytes)) c)))
 
 pub within_end : (m : Memory) (begun bytes out : List ℕ) (m' : Memory) (begun' : List ℕ) (at : ℕ) → length bytes ≤ at
     → Within m begun bytes out m' begun' at → Leads m begun bytes out m' begun'
@@ -286,8 +286,8 @@ within_end m begun bytes out m' begun' at l w more rest c =
     w more rest (subst (λ (b : List ℕ). InputCalls m' begun' (b ++ more) rest) (sym (drop_of_length-le bytes l)) c)
 
 -- the end ends it
-pub leads-end : (m : Memory) (begun bytes out : List ℕ) (m' : Memory) (front : List ℕ) (used : ℕ) (r : Progress) (m'' : Memory)
-    → Leads m begun bytes out m' (take used front) → InputEnded m' front used r m'' → r.rule ≡ 0
-    → InputCalls m begun bytes (out ++ take r.written m''.out)
+pub leads-end : (m : Memory) (begun bytes out : List ℕ) (m' : Memory) (front : List ℕ) (used : ℕ) (r : Reached) (m'' : Memory)
+    → Leads m begun bytes out m' (take used front) → InputEnded m' front used r m'' → first_broken r ≡ 0
+    → InputCalls m begun bytes (out ++ take (written_of r) m''.out)
 leads-end m begun bytes out m' front used r m'' l t told =
-    rw (append-nil bytes) at (l [] (take r.written m''.out) (end m'.room m'.out front used r m'' refl t told))
+    rw (append-nil bytes) at (l [] (take (written_of r) m''.out) (end m'.room m'.out front used r m'' refl t told))

@@ -8,20 +8,20 @@ use mathlib.Core.List.{List, [], ◌∷◌, ◌++◌, append-nil}
 use lib.Dec.{ltb, eqb}
 use lib.ListN.{length, get_or, take, drop, length-append, length-take, length-drop, drop_of_length-le}
 use lib.Seq.{take_all}
-use borrow.Author.Tests.{ltb-false, lt-ltb, le-ltb}
+use borrow.Author.Tests.{ltb-false, le-ltb}
 use Rattle.simulation.proofs.Sets.{clash}
+use Rattle.std.specs.Prelude.{Ok}
+use Rattle.frames.specs.declared.Progress.{Progress}
 use Rattle.session.specs.Limits.{max_changes}
 use Rattle.promises.specs.Answers.{accepted, refused}
 use Rattle.promises.specs.Rules.{verdict}
-use Rattle.promises.proofs.Verdicts.{accepts-or, verdict_pass, verdict_skip, row-passed, row-broken}
-use Rattle.frames.specs.declared.Progress.{Progress}
-use Rattle.frames.specs.declared.Taken.TheVariants as T
+use Rattle.promises.proofs.Verdicts.{accepts-or, verdict_pass, verdict_skip}
 use Rattle.frames.specs.Frames.{Frame, state, node, run, edit, walk, nothing, frame_of}
-use Rattle.frames.specs.Lines.{line_ends, line_in, front_size, Keeps, Gathers}
+use Rattle.frames.specs.Lines.{line_ends, line_in, front_size, Gathers}
 use Rattle.frames.specs.Machine.{Memory, memory, output_size, memory_rules, Prints, Before, After, Answers, Stepped}
 use Rattle.frames.specs.Program.{Fresh}
-use Rattle.frames.specs.Blocks.{input_rules, Point, point, output_after, with_output, GoesOn, Passes, stops, begins, answers, Refuses, BlockTaken, InputEnded}
-use Rattle.frames.proofs.Fronts.{keeps-long, keeps_same}
+use Rattle.frames.specs.Blocks.{input_rules, Reached, written_of, at_of, Point, point, output_after, with_output, GoesOn, Passes, stops, begins, answers, BlockTaken, InputEnded}
+use Rattle.frames.proofs.Fronts.{keeps-long}
 use Rattle.frames.proofs.Takes.{Counted, Passed, rules-passed, passed-rules, answers-counted, taken-line}
 
 -- ---- the rules of the lent memory
@@ -56,7 +56,7 @@ fresh-passed m front f room out long =
     long
 
 -- a memory that a line was answered in breaks no rule of its own
-pub unrefused : (m : Memory) (line : List ℕ) (n : ℕ) (left : Memory) → Stepped m line (T.Written n) left → verdict (memory_rules m) ≡ 0
+pub unrefused : (m : Memory) (line : List ℕ) (n : ℕ) (left : Memory) → Stepped m line (Ok n) left → verdict (memory_rules m) ≡ 0
 unrefused m line n left s =
     ⊎_elim (λ ok. ok)
     (λ bad.
@@ -65,7 +65,7 @@ unrefused m line n left s =
     absurd (omega arith))
     (accepts-or (verdict (memory_rules m)))
 
-stepped_answers : (m : Memory) (line : List ℕ) (n : ℕ) (left : Memory) → Stepped m line (T.Written n) left → Answers m line n left
+stepped_answers : (m : Memory) (line : List ℕ) (n : ℕ) (left : Memory) → Stepped m line (Ok n) left → Answers m line n left
 stepped_answers m line n left s =
     let a = s.answers (unrefused m line n left s) in
     let e : accepted n ≡ accepted a.0 = a.1 in
@@ -223,24 +223,6 @@ module _ (block : List ℕ) where
       pub part-fits : p.written + n ≤ length p.memory.out
       part-fits = written-fits n left a' same'
 
-      pub part-long : length (take p.written p.memory.out ++ (left.out ++ drop (length p.memory.out - p.written) (drop p.written p.memory.out)))
-          ≡ length p.memory.out
-      part-long =
-          let out = p.memory.out in
-          let rest = drop p.written out in
-          let k = length out - p.written in
-          length-append (take p.written out) (left.out ++ drop k rest)
-          ∙ omega (
-            arith,
-            length-take p.written out,
-            length-append left.out (drop k rest),
-            same.out,
-            length-take k rest,
-            length-drop k rest,
-            length-drop p.written out,
-            s.inside,
-          )
-
       pub pass_line : (e : Bool) → e ≡ true → Gathers p.front p.begun block p.at front' begun' at' e
           → Upto block start (point front' 0 at' (p.written + n) (memory left.counts left.words left.session left.room
           (take p.written p.memory.out ++ (left.out ++ drop (length p.memory.out - p.written) (drop p.written p.memory.out)))))
@@ -318,15 +300,15 @@ module _ (block : List ℕ) where
       pass_counted w (answers-counted mine left n h.ready h.counted (take begun' front') (stepped_answers mine (take begun' front') n left s))
 
 -- what the caller of a block learns where the memory breaks no rule
-module _ (m : Memory) (front : List ℕ) (begun : ℕ) (block : List ℕ) (r : Progress) (m' : Memory) (front' : List ℕ)
+module _ (m : Memory) (front : List ℕ) (begun : ℕ) (block : List ℕ) (r : Reached) (m' : Memory) (front' : List ℕ)
     (t : BlockTaken m front begun block r m' front') (ok : verdict (input_rules m front) ≡ 0) where
-  pub block_at : r.at ≤ length block
+  pub block_at : at_of r ≤ length block
   block_at = (pass_at block (t.passes ok).1 (omega arith)).1
 
-  pub block_goes : 0 < length block → 0 < r.at
+  pub block_goes : 0 < length block → 0 < at_of r
   block_goes l = pass_goes block (t.passes ok).1 (l, (input_passed m front ok).0.out)
 
-  pub block_written : r.written ≤ length m'.out
+  pub block_written : written_of r ≤ length m'.out
   block_written = pass_written block (t.passes ok).1 (omega arith)
 
   -- and it breaks none after the call
@@ -336,62 +318,20 @@ module _ (m : Memory) (front : List ℕ) (begun : ℕ) (block : List ℕ) (r : P
       passed_input m' front' (still_passed m m' i.0 same (pass_counted block (t.passes ok).1 i.0.counted)) (omega (arith, long, i.1))
 
 -- and of the end
-pub end-written : (m : Memory) (front : List ℕ) (begun : ℕ) (r : Progress) (m' : Memory) → InputEnded m front begun r m'
-    → verdict (input_rules m front) ≡ 0 → r.written ≤ length m'.out
+pub end-written : (m : Memory) (front : List ℕ) (begun : ℕ) (r : Reached) (m' : Memory) → InputEnded m front begun r m'
+    → verdict (input_rules m front) ≡ 0 → written_of r ≤ length m'.out
 end-written m front begun r m' t ok =
     ⊎_elim
     (λ z. omega (arith, (t.none ok z).0))
     (λ some.
-    answers-fit m (take begun front) r.written m' (input_passed m front ok).0.counted (t.line ok (omega (arith, some))))
+    answers-fit m (take begun front) (written_of r) m' (input_passed m front ok).0.counted (t.line ok (omega (arith, some))))
     (accepts-or begun)
 
--- ---- the promises, return by return
+-- what a call promises, of the progress that it tells
+pub block-told : {m : Memory} {front : List ℕ} {begun : ℕ} {block : List ℕ} {r : Reached} {m' : Memory} {front' : List ℕ} {p : Progress}
+    → r ≡ Ok p → BlockTaken m front begun block r m' front' → BlockTaken m front begun block (Ok p) m' front'
+block-told {m} {front} {begun} {block} {r} {m'} {front'} e t = subst (λ (x : Reached). BlockTaken m front begun block x m' front') e t
 
-module _ (m : Memory) (front : List ℕ) where
-  pub rule-front : length front < front_size → 3 ≡ verdict (input_rules m front)
-  rule-front l = row-broken 3 (ltb (length front) front_size) true (memory_rules m) (sym (lt-ltb (length front) front_size l)) refl
-
-  pub rule-others : (k : ℕ) → front_size ≤ length front → k ≡ verdict (memory_rules m) → k ≡ verdict (input_rules m front)
-  rule-others k l e = row-passed 3 (ltb (length front) front_size) false (memory_rules m) (sym (le-ltb (length front) front_size l)) k refl e
-
-  pub unbroken_input : (k : ℕ) → k ≡ verdict (input_rules m front) → k ≡ 0 → verdict (input_rules m front) ≡ 0
-  unbroken_input k k-is fine = sym k-is ∙ fine
-
-  module _ (begun k : ℕ) (r : Progress) (k-is : k ≡ verdict (input_rules m front)) where
-    module _ (some : k ≡ 0 → ⊥) (told : Refuses k begun r) where
-      told-verdict : Refuses (verdict (input_rules m front)) begun r
-      told-verdict = (told.0 ∙ k-is, told.1, told.2, told.3)
-
-      pub block_refused : (block : List ℕ) → BlockTaken m front begun block r m front
-      block_refused block = record { refuses = λ bad. (told-verdict, refl, refl); passes = λ ok. absurd (some (k-is ∙ ok)) }
-
-      pub end_refused : InputEnded m front begun r m
-      end_refused = record {
-        refuses = λ bad. (told-verdict, refl);
-        told = λ ok. absurd (some (k-is ∙ ok));
-        none = λ ok z. absurd (some (k-is ∙ ok));
-        line = λ ok l. absurd (some (k-is ∙ ok));
-      }
-
-    module _ (fine : k ≡ 0) where
-      pub block-passed-over : (block : List ℕ) (m' : Memory) (front' : List ℕ)
-          → (r.rule ≡ 0) × Passes block (point front begun 0 0 m) (point front' r.begun r.at r.written m')
-          → BlockTaken m front begun block r m' front'
-      block-passed-over block m' front' w = record { refuses = λ bad. absurd (bad (unbroken_input k k-is fine)); passes = λ ok. w }
-
-      pub end_none : begun ≡ 0 → Refuses 0 0 r → InputEnded m front begun r m
-      end_none z told = record {
-        refuses = λ bad. absurd (bad (unbroken_input k k-is fine));
-        told = λ ok. (told.0, told.2, told.3);
-        none = λ ok e. (told.1, refl);
-        line = λ ok l. absurd (omega (arith, l, z));
-      }
-
-      pub end_line : (used : ℕ) (m' : Memory) → (begun ≡ 0 → ⊥) → Keeps front begun [] front used → (r.rule ≡ 0) × (r.at ≡ 0) × (r.begun ≡ 0)
-          → Answers m (take used front) r.written m' → InputEnded m front begun r m'
-      end_line used m' some keeps told a = record {
-        refuses = λ bad. absurd (bad (unbroken_input k k-is fine));
-        told = λ ok. told;
-        none = λ ok z. absurd (some z);
-        line = λ ok l. subst (λ (w : List ℕ). Answers m w r.written m') (keeps_same front begun used keeps) a;
-      }
+pub end-told : {m : Memory} {front : List ℕ} {begun : ℕ} {r : Reached} {m' : Memory} {p : Progress}
+    → r ≡ Ok p → InputEnded m front begun r m' → InputEnded m front begun (Ok p) m'
+end-told {m} {front} {begun} {r} {m'} e t = subst (λ (x : Reached). InputEnded m front begun x m') e t

@@ -11,7 +11,7 @@ use lib.ListN.{length, get_or, set, drop, length-set, length-drop}
 use lib.Seq.{get_or-set_same, get_or-set_other, length-take-le}
 use borrow.Author.Tests.{ne_eqb, leb-false}
 use Rattle.session.specs.Limits.{max_states, max_nodes, max_changes, fixed_size}
-use Rattle.promises.specs.Answers.{Outcome, Summary, accepted, refused, outcome, told, handed_back}
+use Rattle.promises.specs.Answers.{places_told, Outcome, Summary, accepted, refused, outcome, told, handed_back}
 use Rattle.promises.specs.Rules.{verdict, Given, given_trigger, given_graph, Kind, load_rules}
 use Rattle.promises.specs.Promises.{load_list}
 use Rattle.promises.specs.Model.{Model, begun, model_rules, step, editing, load_summary, edit_list, edit_summary}
@@ -254,7 +254,7 @@ module _ (b : Model) (m : Memory) (r : Ready m) (moment : get_or m.counts 0 0 �
   walked-told w =
       told-lines (running b) walk m n m' m refl refl (r, moment, f)
       (subst (λ (bytes : List ℕ). Prints bytes m n m')
-      (ap (λ (o : Outcome ℕ). ordered o w.order.states) (order-told b m.session f w.order w.orders)
+      (ap (λ (o : Outcome ℕ). ordered o (places_told w.order)) (order-told b m.session f w.order w.orders)
       ∙ ap walked (order-list b m.session f w.order w.orders))
       w.prints)
 

@@ -15,9 +15,8 @@ use Rattle.promises.specs.Rules.{verdict, load_rules}
 use Rattle.promises.specs.OneMemory as reached
 use Rattle.promises.specs.OneMemory.{ByCalls, load, call}
 use Rattle.promises.proofs.Verdicts.{accepts-or}
-use Rattle.frames.specs.declared.Taken.{Taken}
 use Rattle.frames.specs.Frames.{Frame, state, node, run, edit, walk, nothing, frame_of}
-use Rattle.frames.specs.Machine.{Memory, states_read, nodes_read, Ready, read_so_far, moved, memory_rules, state_kept, node_kept, Prints, Ran, Before, After, Stepped}
+use Rattle.frames.specs.Machine.{Memory, states_read, nodes_read, Ready, read_so_far, moved, memory_rules, state_kept, node_kept, Prints, Ran, Before, After, Taken, Stepped}
 use Rattle.frames.specs.Program.{Line, LineByLine, ended, taken, Fresh, Reaching, AllReaching}
 use Rattle.frames.proofs.Kept.{state-moment, node-moment}
 use Rattle.frames.proofs.Takes.{rules-passed}

@@ -13,14 +13,14 @@ use lib.ListN.{length, get_or, set, take, drop}
 use lib.Seq.{get_or-set_same, get_or-set_other}
 use borrow.Author.Tests.{le-ltb, ltb-false, leb-false}
 use Rattle.simulation.proofs.Sets.{or_false_l, or_false_r}
+use Rattle.std.specs.Prelude.{Some, Ok}
 use Rattle.session.specs.Limits.{fixed_size, max_states, max_nodes, max_changes}
 use Rattle.listing.specs.Placed.{Placed}
 use Rattle.promises.specs.Answers.{Outcome, Summary, accepted, refused, told}
 use Rattle.promises.specs.Rules.{rule, verdict, given}
-use Rattle.promises.proofs.Verdicts.{accepts-or, verdict_pass, row-passed, row-broken, rows_end}
+use Rattle.promises.proofs.Verdicts.{accepts-or, verdict_pass}
 use Rattle.frames.specs.declared.Frame as declared
 use Rattle.frames.specs.declared.Frame.TheVariants as F
-use Rattle.frames.specs.declared.Taken.TheVariants as T
 use Rattle.frames.specs.declared.State.{State}
 use Rattle.frames.specs.declared.Edge.{Edge}
 use Rattle.frames.specs.Frames.{Frame, state, node, run, edit, walk, nothing, said, frame_of}
@@ -77,32 +77,21 @@ read_parts m inverted e =
 -- ---- a frame of the other moment: edits and the order are early, states, nodes and the run are late
 
 module _ (m m' : Memory) (n : ℕ) (p : Prints (refusal 2) m n m') where
-  pub early : (g : declared.Frame) → ((s : State) → g ≡ F.State s → ⊥) → ((x : ℕ) → g ≡ F.Node x → ⊥) → (g ≡ F.Run → ⊥) → (g ≡ F.Nothing → ⊥) → Before (said g) m n m'
-  early (F.State s) a b c d = absurd (a s refl)
-  early (F.Node x) a b c d = absurd (b x refl)
-  early F.Run a b c d = absurd (c refl)
-  early (F.Insert e) a b c d = p
-  early (F.Delete e) a b c d = p
-  early F.Walk a b c d = p
-  early F.Nothing a b c d = absurd (d refl)
+  pub early : (g : declared.Frame) → ((s : State) → g ≡ F.State s → ⊥) → ((x : ℕ) → g ≡ F.Node x → ⊥) → (g ≡ F.Run → ⊥) → Before (said (Some g)) m n m'
+  early (F.State s) a b c = absurd (a s refl)
+  early (F.Node x) a b c = absurd (b x refl)
+  early F.Run a b c = absurd (c refl)
+  early (F.Insert e) a b c = p
+  early (F.Delete e) a b c = p
+  early F.Walk a b c = p
 
-  pub late : (g : declared.Frame) → ((e : Edge) → g ≡ F.Insert e → ⊥) → ((e : Edge) → g ≡ F.Delete e → ⊥) → (g ≡ F.Walk → ⊥) → (g ≡ F.Nothing → ⊥) → After (said g) m n m'
-  late (F.State s) a b c d = p
-  late (F.Node x) a b c d = p
-  late F.Run a b c d = p
-  late (F.Insert e) a b c d = absurd (a e refl)
-  late (F.Delete e) a b c d = absurd (b e refl)
-  late F.Walk a b c d = absurd (c refl)
-  late F.Nothing a b c d = absurd (d refl)
-
--- ---- a line at its moment
-
-module _ (m : Memory) (line : List ℕ) (n : ℕ) (m' : Memory) where
-  pub answers-before : get_or m.counts 0 0 ≡ 0 → Before (frame_of line) m n m' → Answers m line n m'
-  answers-before moment w = record { before = λ e. w; after = λ e. absurd (omega (arith, e, moment)) }
-
-  pub answers-after : (get_or m.counts 0 0 ≡ 0 → ⊥) → After (frame_of line) m n m' → Answers m line n m'
-  answers-after moment w = record { before = λ e. absurd (moment e); after = λ e. w }
+  pub late : (g : declared.Frame) → ((e : Edge) → g ≡ F.Insert e → ⊥) → ((e : Edge) → g ≡ F.Delete e → ⊥) → (g ≡ F.Walk → ⊥) → After (said (Some g)) m n m'
+  late (F.State s) a b c = p
+  late (F.Node x) a b c = p
+  late F.Run a b c = p
+  late (F.Insert e) a b c = absurd (a e refl)
+  late (F.Delete e) a b c = absurd (b e refl)
+  late F.Walk a b c = absurd (c refl)
 
 -- ---- a memory that breaks no rule of its own
 
@@ -229,23 +218,7 @@ module _ (m m' : Memory) (n : ℕ) (r : Ready m) (c : Counted m.counts) where
       (λ z. after-counted (frame_of line) (a.after (omega (arith, z, c.0))))
       (accepts-or (get_or m.counts 0 0))
 
--- ---- the rules of the memory, and then the line
+-- ---- a line in such a memory
 
-module _ (m : Memory) (a : Bool) (a-is : a ≡ too_small m) where
-  pub rule-short : a ≡ true → 3 ≡ verdict (memory_rules m)
-  rule-short h = row-broken 3 (too_small m) a (rule 10 (miscounted m) ∷ []) a-is h
-
-  module _ (long : a ≡ false) (b : Bool) (b-is : b ≡ miscounted m) where
-    pub rule-counts : b ≡ true → 10 ≡ verdict (memory_rules m)
-    rule-counts h = row-passed 3 (too_small m) a (rule 10 (miscounted m) ∷ []) a-is 10 long (row-broken 10 (miscounted m) b [] b-is h)
-
-    pub rule-none : b ≡ false → 0 ≡ verdict (memory_rules m)
-    rule-none h =
-        row-passed 3 (too_small m) a (rule 10 (miscounted m) ∷ []) a-is 0 long (row-passed 10 (miscounted m) b [] b-is 0 h rows_end)
-
-module _ (m : Memory) (line : List ℕ) where
-  pub taken_refused : (k : ℕ) → k ≡ verdict (memory_rules m) → (k ≡ 0 → ⊥) → Stepped m line (T.Refused k) m
-  taken_refused k e some = record { refuses = λ bad. (ap refused e, refl); answers = λ z. absurd (some (e ∙ z)) }
-
-  pub taken-line : (n : ℕ) (m' : Memory) → verdict (memory_rules m) ≡ 0 → Answers m line n m' → Stepped m line (T.Written n) m'
-  taken-line n m' ok w = record { refuses = λ bad. absurd (bad ok); answers = λ z. (n, refl, w) }
+pub taken-line : (m : Memory) (line : List ℕ) (n : ℕ) (m' : Memory) → verdict (memory_rules m) ≡ 0 → Answers m line n m' → Stepped m line (Ok n) m'
+taken-line m line n m' ok w = record { refuses = λ bad. absurd (bad ok); answers = λ z. (n, refl, w) }

@@ -13,7 +13,7 @@ use Rattle.frames.specs.Digits.{digit, hexadecimal, number_from, number}
 use Rattle.frames.specs.Frames.{state, nothing, field, spoken}
 use Rattle.frames.specs.Moments.{Moment, reading, running, broken}
 use Rattle.frames.proofs.Hex.{number_fits}
-use Rattle.frames.proofs.Kinded.{hex_part, state-right, wide_other, wide-right}
+use Rattle.frames.proofs.Kinded.{hex_front, hex_rest, state-right, wide_other, wide-right}
 
 -- "any other inversion byte meets 1", at every moment
 pub third_inversion : (p : Moment) (ds : List ℕ) → length ds ≡ 18 → 1 < field 2 ds 0 → broken p (spoken 10 ds) ≡ 1
@@ -101,4 +101,4 @@ module _ (mask value : List ℕ) (m : length mask ≡ 4) (v : length value ≡ 4
 
 -- their links are in the lower half
 pub older_links : (ds : List ℕ) → hexadecimal ds ≡ true → length ds ≡ 12 → field 4 ds 8 < 2 ^ half_bits
-older_links ds h e = number_fits (take 4 (drop 8 ds)) 4 (hex_part ds 8 4 h (omega arith)) (omega (arith, length-take 4 (drop 8 ds)))
+older_links ds h e = number_fits (take 4 (drop 8 ds)) 4 (hex_front (drop 8 ds) 4 (hex_rest ds 8 h)) (omega (arith, length-take 4 (drop 8 ds)))

@@ -1,9 +1,10 @@
 -- The input in blocks: the promises of the two calls that answer a block and the input's end, in any memory; and what a sequence of such calls
 -- comes to, which is proved in proofs/Inputs.
-use Rattle.std.specs.Prelude.{ℕ, ◌+◌, ◌<◌, ◌≤◌, ◌≡◌, ◌⊎◌, true, false, List, [], ◌∷◌, ◌++◌, map, ltb, ℤ, length, take, drop}
+use Rattle.std.specs.Prelude.{ℕ, ◌+◌, ◌<◌, ◌≤◌, ◌≡◌, ◌⊎◌, true, false, List, [], ◌∷◌, ◌++◌, map, ltb, ℤ, length, take, drop, Result, Ok, Err}
 use Rattle.promises.specs.Rules.{Rule, rule, verdict}
+use Rattle.promises.specs.declared.Refusal.{Refusal}
+use Rattle.promises.specs.Answers.{first_broken}
 use Rattle.frames.specs.declared.Progress.{Progress}
-use Rattle.frames.specs.declared.Taken.TheVariants as T
 use Rattle.frames.specs.Frames.{frame_of}
 use Rattle.frames.specs.Lines.{lines_after, front_size, Gathers}
 use Rattle.frames.specs.Outputs.{each}
@@ -47,44 +48,62 @@ pub data Passes (block : List ℕ) : Point → Point → Type 0 where
   -- a line ends, and the machine takes it
   answers : {p q : Point} (front' : List ℕ) (begun' at' n : ℕ) (left : Memory) → GoesOn block p
       → Gathers p.front p.begun block p.at front' begun' at' true
-      → Stepped (output_after p.written p.memory) (take begun' front') (T.Written n) left
+      → Stepped (output_after p.written p.memory) (take begun' front') (Ok n) left
       → Passes block (point front' 0 at' (p.written + n) (with_output (take p.written p.memory.out) left)) q → Passes block p q
 
+-- what a call tells: how far it came in the input, or the rule that the lent memory breaks
+abbrev pub Reached : Type 0
+Reached = Result Progress Refusal
+
+-- how many bytes of output it wrote, how many of the block it took, and how long the front of the line begun then is: of a refused call, nothing
+-- written, nothing taken, and the front as it was lent
+abbrev pub written_of : Reached → ℕ
+written_of (Ok p) = p.written
+written_of (Err rule) = 0
+
+abbrev pub at_of : Reached → ℕ
+at_of (Ok p) = p.at
+at_of (Err rule) = 0
+
+abbrev pub begun_of : ℕ → Reached → ℕ
+begun_of lent (Ok p) = p.begun
+begun_of lent (Err rule) = lent
+
 -- a call that the lent memory refuses: nothing is taken and nothing is written
-abbrev pub Refuses : ℕ → ℕ → Progress → Type 0
-Refuses n begun r = (r.rule ≡ n) × (r.written ≡ 0) × (r.at ≡ 0) × (r.begun ≡ begun)
+abbrev pub Refuses : ℕ → ℕ → Reached → Type 0
+Refuses n begun r = (first_broken r ≡ n) × (written_of r ≡ 0) × (at_of r ≡ 0) × (begun_of begun r ≡ begun)
 
 -- A block: the pass over it from its first byte, from a line begun in the front.
-pub record BlockTaken (m : Memory) (front : List ℕ) (begun : ℕ) (block : List ℕ) (r : Progress) (m' : Memory) (front' : List ℕ) : Type 0 where
+pub record BlockTaken (m : Memory) (front : List ℕ) (begun : ℕ) (block : List ℕ) (r : Reached) (m' : Memory) (front' : List ℕ) : Type 0 where
   pub refuses : (verdict (input_rules m front) ≡ 0 → ⊥) → Refuses (verdict (input_rules m front)) begun r × (m' ≡ m) × (front' ≡ front)
   pub passes : verdict (input_rules m front) ≡ 0
-      → (r.rule ≡ 0) × Passes block (point front begun 0 0 m) (point front' r.begun r.at r.written m')
+      → (first_broken r ≡ 0) × Passes block (point front begun 0 0 m) (point front' (begun_of begun r) (at_of r) (written_of r) m')
 
 -- "or the input's end. Where nothing follows the last line feed there is no further line."
-pub record InputEnded (m : Memory) (front : List ℕ) (begun : ℕ) (r : Progress) (m' : Memory) : Type 0 where
+pub record InputEnded (m : Memory) (front : List ℕ) (begun : ℕ) (r : Reached) (m' : Memory) : Type 0 where
   pub refuses : (verdict (input_rules m front) ≡ 0 → ⊥) → Refuses (verdict (input_rules m front)) begun r × (m' ≡ m)
-  pub told : verdict (input_rules m front) ≡ 0 → (r.rule ≡ 0) × (r.at ≡ 0) × (r.begun ≡ 0)
-  pub none : verdict (input_rules m front) ≡ 0 → begun ≡ 0 → (r.written ≡ 0) × (m' ≡ m)
-  pub line : verdict (input_rules m front) ≡ 0 → 0 < begun → Answers m (take begun front) r.written m'
+  pub told : verdict (input_rules m front) ≡ 0 → (first_broken r ≡ 0) × (at_of r ≡ 0) × (begun_of begun r ≡ 0)
+  pub none : verdict (input_rules m front) ≡ 0 → begun ≡ 0 → (written_of r ≡ 0) × (m' ≡ m)
+  pub line : verdict (input_rules m front) ≡ 0 → 0 < begun → Answers m (take begun front) (written_of r) m'
 
 -- A sequence of calls to the input's end, from a memory and the bytes of a line begun, over the input to come: its outputs one after the other.
 -- Each call is lent a change room, an output and a memory of the front of its own, whatever their lengths are, and as its block the first bytes
 -- of the input to come, as many as it likes.
 pub data InputCalls : Memory → List ℕ → List ℕ → List ℕ → Type 0 where
   block : {m : Memory} {begun input output : List ℕ} (room : List ℤ) (out front : List ℕ) (used : ℕ) (bytes more : List ℕ)
-      (r : Progress) (m' : Memory) (front' : List ℕ) → take used front ≡ begun → bytes ++ more ≡ input
+      (r : Reached) (m' : Memory) (front' : List ℕ) → take used front ≡ begun → bytes ++ more ≡ input
       → BlockTaken (lent m room out) front used bytes r m' front'
-      → InputCalls m' (take r.begun front') (drop r.at bytes ++ more) output
-      → InputCalls m begun input (take r.written m'.out ++ output)
+      → InputCalls m' (take (begun_of used r) front') (drop (at_of r) bytes ++ more) output
+      → InputCalls m begun input (take (written_of r) m'.out ++ output)
   -- an end that the lent memory refuses
-  again : {m : Memory} {begun input output : List ℕ} (room : List ℤ) (out front : List ℕ) (used : ℕ) (r : Progress) (m' : Memory)
-      → take used front ≡ begun → InputEnded (lent m room out) front used r m' → (r.rule ≡ 0 → ⊥)
+  again : {m : Memory} {begun input output : List ℕ} (room : List ℤ) (out front : List ℕ) (used : ℕ) (r : Reached) (m' : Memory)
+      → take used front ≡ begun → InputEnded (lent m room out) front used r m' → (first_broken r ≡ 0 → ⊥)
       → InputCalls m' begun input output
-      → InputCalls m begun input (take r.written m'.out ++ output)
+      → InputCalls m begun input (take (written_of r) m'.out ++ output)
   -- the end, in memory that is not refused
-  end : {m : Memory} {begun : List ℕ} (room : List ℤ) (out front : List ℕ) (used : ℕ) (r : Progress) (m' : Memory) → take used front ≡ begun
-      → InputEnded (lent m room out) front used r m' → r.rule ≡ 0
-      → InputCalls m begun [] (take r.written m'.out)
+  end : {m : Memory} {begun : List ℕ} (room : List ℤ) (out front : List ℕ) (used : ℕ) (r : Reached) (m' : Memory) → take used front ≡ begun
+      → InputEnded (lent m room out) front used r m' → first_broken r ≡ 0
+      → InputCalls m begun [] (take (written_of r) m'.out)
 
 -- Calls were made that took these bytes and gave this output: any sequence that goes on from there is one from their start.
 abbrev pub Leads : Memory → List ℕ → List ℕ → List ℕ → Memory → List ℕ → Type 0

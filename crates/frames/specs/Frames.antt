@@ -1,5 +1,5 @@
 -- 01, "Frames", and 02: what a line says.
-use Rattle.std.specs.Prelude.{ℕ, Bool, true, false, ◌&&◌, cond, List, leb, eqb, length, take, drop}
+use Rattle.std.specs.Prelude.{ℕ, Bool, true, false, ◌&&◌, cond, List, leb, eqb, length, take, drop, Option, Some, None}
 use Rattle.frames.specs.declared.Frame as declared
 use Rattle.frames.specs.declared.Frame.TheVariants as F
 use Rattle.promises.specs.Rules.{Kind, insertion, deletion}
@@ -44,12 +44,12 @@ spoken kind ds =
 unfoldable pub frame_of : List ℕ → Frame
 frame_of line = cond (leb 2 (length line) && hexadecimal line) (spoken (number (take 2 line)) (drop 2 line)) nothing
 
--- a frame of the code
-abbrev pub said : declared.Frame → Frame
-said (F.State s) = state s.inverted s.mask s.value s.links
-said (F.Node x) = node x
-said F.Run = run
-said (F.Insert e) = edit insertion e.start e.end
-said (F.Delete e) = edit deletion e.start e.end
-said F.Walk = walk
-said F.Nothing = nothing
+-- a frame of the code, where a line that is none is read as `None`
+abbrev pub said : Option declared.Frame → Frame
+said (Some (F.State s)) = state s.inverted s.mask s.value s.links
+said (Some (F.Node x)) = node x
+said (Some F.Run) = run
+said (Some (F.Insert e)) = edit insertion e.start e.end
+said (Some (F.Delete e)) = edit deletion e.start e.end
+said (Some F.Walk) = walk
+said None = nothing

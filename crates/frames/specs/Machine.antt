@@ -1,14 +1,11 @@
 -- What the program's machine promises when it takes one line, whatever the line and the lent memory are.
-use Rattle.std.specs.Prelude.{ℕ, ◌+◌, ◌*◌, ◌^◌, ◌%◌, ◌≤◌, ◌≡◌, Bool, ◌||◌, cond, List, [], ◌∷◌, ◌++◌, ltb, leb, ℤ, length, get_or, set, drop}
+use Rattle.std.specs.Prelude.{ℕ, ◌+◌, ◌*◌, ◌^◌, ◌%◌, ◌≤◌, ◌≡◌, Bool, ◌||◌, cond, List, [], ◌∷◌, ◌++◌, ltb, leb, ℤ, length, get_or, set, drop, Result, Ok, Err}
 use Rattle.session.specs.Limits.{max_states, max_nodes, max_changes, fixed_size}
 use Rattle.session.specs.Layout.{part}
-use Rattle.promises.specs.declared.Answer.{Answer}
-use Rattle.promises.specs.declared.StateOrder.{StateOrder}
-use Rattle.promises.specs.Answers.{Outcome, Summary, accepted, refused, told, told_order, handed_back}
+use Rattle.promises.specs.declared.Refusal.{Refusal}
+use Rattle.promises.specs.Answers.{Answer, OrderAnswer, number, Outcome, Summary, accepted, refused, told, told_order, places_told, handed_back}
 use Rattle.promises.specs.Rules.{Rule, rule, verdict, Given, given, Kind}
 use Rattle.promises.specs.Promises.{Loaded, Edited, Ordered}
-use Rattle.frames.specs.declared.Taken.{Taken}
-use Rattle.frames.specs.declared.Taken.TheVariants as T
 use Rattle.frames.specs.Frames.{Frame, state, node, run, edit, walk, nothing, frame_of}
 use Rattle.frames.specs.Outputs.{refusal, report_size, change_size, answered, ordered}
 
@@ -84,9 +81,12 @@ abbrev pub memory_rules : Memory → List Rule
 memory_rules m = rule 3 (too_small m) ∷ rule 10 (miscounted m) ∷ []
 
 -- how many bytes of output a line gave, or the rule that the memory breaks
+abbrev pub Taken : Type 0
+Taken = Result ℕ Refusal
+
 abbrev pub told_taken : Taken → Outcome ℕ
-told_taken (T.Written n) = accepted n
-told_taken (T.Refused n) = refused n
+told_taken (Ok n) = accepted n
+told_taken (Err rule) = refused (number rule)
 
 -- these bytes at the front of the output, and nothing else written
 abbrev pub printing : List ℕ → Memory → Memory
@@ -134,9 +134,9 @@ pub record Changed (k : Kind) (a b : ℕ) (m : Memory) (n : ℕ) (m' : Memory) :
 
 -- The depth-first order by the library's call.
 pub record Walked (m : Memory) (n : ℕ) (m' : Memory) : Type 0 where
-  pub order : StateOrder
+  pub order : OrderAnswer
   pub orders : Ordered m.session order
-  pub prints : Prints (ordered (told_order order.answer) order.states) m n m'
+  pub prints : Prints (ordered (told_order order) (places_told order)) m n m'
 
 -- What a frame comes to, before an accepted run and after it: rule 1 comes before 2, and 2 before those of the states, the nodes and the calls.
 abbrev pub Before : Frame → Memory → ℕ → Memory → Type 0

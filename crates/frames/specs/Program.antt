@@ -1,14 +1,12 @@
 -- The whole program over the promises of its machine: from counts of zero, one line after the other. It is proved in proofs/Programs.
 use Rattle.std.specs.Prelude.{ℕ, ◌≤◌, ◌≡◌, List, [], ◌∷◌, map, ℤ, length, get_or, take}
 use Rattle.session.specs.Limits.{max_changes, fixed_size}
-use Rattle.promises.specs.declared.Answer.{Answer}
-use Rattle.promises.specs.Answers.{Outcome, accepted, refused, outcome, told, handed_back}
+use Rattle.promises.specs.Answers.{Answer, Outcome, accepted, refused, outcome, told, handed_back}
 use Rattle.promises.specs.Rules.{Given, given_trigger, given_graph, Kind}
 use Rattle.promises.specs.Promises.{load_list}
 use Rattle.promises.specs.Model.{Model, step, editing, load_summary, edit_summary}
 use Rattle.promises.specs.Demands.{Call, Demand2, Demand3, Kept, Faithful}
 use Rattle.promises.specs.OneMemory.{ByCalls}
-use Rattle.frames.specs.declared.Taken.{Taken}
 use Rattle.frames.specs.Frames.{Frame, state, node, run, edit, walk, nothing, frame_of}
 use Rattle.frames.specs.Outputs.{each, refusal, answered}
 use Rattle.frames.specs.Machine.{
@@ -21,6 +19,7 @@ use Rattle.frames.specs.Machine.{
   nodes_read,
   Ready,
   read_so_far,
+  Taken,
   told_taken,
   printing,
   Stepped,

@@ -1,24 +1,16 @@
 // Frames: what a line says and what it is answered is defined in specs/. The types in which a line is read and answered.
 #![tactic(auto)]
 
-// How many bytes of output a line gave, or the rule that the lent memory breaks.
-#[derive(Clone, Copy)]
-pub enum Taken {
-    Written(usize),
-    Refused(u8),
-}
-
-// How far a call came in the input: the rule that the lent memory breaks, or 0; how many bytes of output it wrote; how many bytes of the block
-// it took; and how long the front of the line begun then is, or as it was lent where nothing was taken.
-#[derive(Clone, Copy)]
+// How far a call came in the input: how many bytes of output it wrote; how many bytes of the block it took; and how long the front of the line
+// begun then is. A call that the lent memory refuses takes and writes nothing, and the front stays as it was lent.
+#[derive(Clone, Copy, Debug, PartialEq, Eq)]
 pub struct Progress {
-    pub rule: u8,
     pub written: usize,
     pub at: usize,
     pub begun: usize,
 }
 
-#[derive(Clone, Copy)]
+#[derive(Clone, Copy, Debug, PartialEq, Eq)]
 pub struct State {
     pub mask: u16,
     pub value: u16,
@@ -26,14 +18,14 @@ pub struct State {
     pub inverted: bool,
 }
 
-#[derive(Clone, Copy)]
+#[derive(Clone, Copy, Debug, PartialEq, Eq)]
 pub struct Edge {
     pub start: u32,
     pub end: u32,
 }
 
-// What a line says: a frame of one of the kinds, or nothing that is a frame.
-#[derive(Clone, Copy)]
+// A frame of one of the kinds. A line that is none is read as None.
+#[derive(Clone, Copy, Debug, PartialEq, Eq)]
 pub enum Frame {
     State(State),
     Node(u16),
@@ -41,5 +33,4 @@ pub enum Frame {
     Insert(Edge),
     Delete(Edge),
     Walk,
-    Nothing,
 }

@@ -2,7 +2,7 @@
 // is the library's to tell.
 #![tactic(auto)]
 
-ghost use Rattle.std.specs.Prelude.{◌≡◌, ℕ, ◌≤◌, true, List, [], length, take};
+ghost use Rattle.std.specs.Prelude.{◌≡◌, ℕ, ◌≤◌, List, [], length, take, IfOk, OnOk};
 ghost use Rattle.std.specs.Io.KnownBytes.{Appends, Consumes};
 ghost use Rattle.session.specs.Limits.{max_changes};
 ghost use Rattle.promises.specs.Rules.{verdict};
@@ -15,14 +15,8 @@ ghost use Rattle.frames.specs.Blocks.{input_rules, InputCalls, Leads};
 use frame_input::{answer_block, answer_end};
 use frame_machine::{COUNTS_SIZE, WORDS_SIZE};
 use line_gathering::KEPT;
+use std::io;
 use std::io::{Read, Write};
-
-// How long the front of a line begun is, and whether all was written so far.
-#[derive(Clone, Copy)]
-struct Begun {
-    used: usize,
-    written: bool,
-}
 
 // Reads the front of a block: how many bytes, none at the input's end, and none where the read fails.
 fn read_front<R: Read>(reader: &mut R, block: &mut [u8]) -> usize
@@ -32,15 +26,16 @@ fn read_front<R: Read>(reader: &mut R, block: &mut [u8]) -> usize
     reader.read(block).unwrap_or(0)
 }
 
-// Writes all of the bytes, and sends them on at once: whether that was done.
-fn write_out<W: Write>(writer: &mut W, bytes: &[u8]) -> bool
-    ensures { result ≡ true → Appends (W.contents writer.old) (W.contents writer.new) bytes.now }
+// Writes all of the bytes, and sends them on at once.
+fn write_out<W: Write>(writer: &mut W, bytes: &[u8]) -> io::Result<()>
+    ensures { OnOk result (Appends (W.contents writer.old) (W.contents writer.new) bytes.now) }
 {
-    writer.write_all(bytes).is_ok() && writer.flush().is_ok()
+    writer.write_all(bytes)?;
+    writer.flush()
 }
 
-// Answers a block, part by part as the output holds the answers. They are written before more is read, so that each reaches the other end
-// of a pipe at once.
+// Answers a block, part by part as the output holds the answers: how long the front of the line begun then is. They are written before more is
+// read, so that each reaches the other end of a pipe at once.
 fn answer_whole<W: Write>(
     counts: &mut [u32],
     words: &mut [u16],
@@ -51,16 +46,15 @@ fn answer_whole<W: Write>(
     block: &[u8],
     out: &mut [u8],
     writer: &mut W,
-) -> Begun
+) -> io::Result<usize>
     requires { verdict (input_rules (memory counts.old words.old session.old changes.old out.old) front.old) ≡ 0 }
     ensures unbroken { verdict (input_rules (memory counts.new words.new session.new changes.new out.new) front.new) ≡ 0 }
-    ensures calls { result.written ≡ true → (output : List ℕ) × Leads (memory counts.old words.old session.old changes.old out.old) (take begun front.old) block.now output (memory counts.new words.new session.new changes.new out.new) (take result.used front.new)
-        × Appends (W.contents writer.old) (W.contents writer.new) output }
+    ensures calls { IfOk result (λ used. (output : List ℕ) × Leads (memory counts.old words.old session.old changes.old out.old) (take begun front.old) block.now output (memory counts.new words.new session.new changes.new out.new) (take used front.new)
+        × Appends (W.contents writer.old) (W.contents writer.new) output) }
 {
     let mut at = 0;
     let mut line = begun;
-    let mut written = true;
-    while at < block.len() && written {
+    while at < block.len() {
         let progress = answer_block(
             counts,
             words,
@@ -70,19 +64,17 @@ fn answer_whole<W: Write>(
             line,
             &block[at..],
             out,
-        );
-        written = write_out(writer, &out[..progress.written]);
+        )
+        .unwrap();
+        write_out(writer, &out[..progress.written])?;
         line = progress.begun;
         at += progress.at;
     }
-    Begun {
-        used: line,
-        written,
-    }
+    Ok(line)
 }
 
-// Answers the blocks of the input, to its end. Nothing says that an input ends: the turns are counted down, from a number that no
-// run uses up.
+// Answers the blocks of the input, to its end: how long the front of the line begun then is. Nothing says that an input ends, so the turns are
+// as many as no run uses up.
 fn answer_blocks<R: Read, W: Write>(
     counts: &mut [u32],
     words: &mut [u16],
@@ -93,18 +85,14 @@ fn answer_blocks<R: Read, W: Write>(
     out: &mut [u8],
     reader: &mut R,
     writer: &mut W,
-) -> Begun
+) -> io::Result<usize>
     requires { verdict (input_rules (memory counts.old words.old session.old changes.old out.old) front.old) ≡ 0 }
     ensures unbroken { verdict (input_rules (memory counts.new words.new session.new changes.new out.new) front.new) ≡ 0 }
-    ensures calls { result.written ≡ true → (bytes : List ℕ) × (output : List ℕ) × Leads (memory counts.old words.old session.old changes.old out.old) [] bytes output (memory counts.new words.new session.new changes.new out.new) (take result.used front.new)
-        × Consumes (R.remaining reader.old) (R.remaining reader.new) bytes × Appends (W.contents writer.old) (W.contents writer.new) output }
+    ensures calls { IfOk result (λ used. (bytes : List ℕ) × (output : List ℕ) × Leads (memory counts.old words.old session.old changes.old out.old) [] bytes output (memory counts.new words.new session.new changes.new out.new) (take used front.new)
+        × Consumes (R.remaining reader.old) (R.remaining reader.new) bytes × Appends (W.contents writer.old) (W.contents writer.new) output) }
 {
-    let mut begun = Begun {
-        used: 0,
-        written: true,
-    };
-    let mut turns = u64::MAX;
-    while turns > 0 && begun.written {
+    let mut begun = 0;
+    for _ in 0..u64::MAX {
         let n = read_front(reader, block);
         if n == 0 {
             break;
@@ -115,17 +103,16 @@ fn answer_blocks<R: Read, W: Write>(
             session,
             changes,
             front,
-            begun.used,
+            begun,
             &block[..n],
             out,
             writer,
-        );
-        turns -= 1;
+        )?;
     }
-    begun
+    Ok(begun)
 }
 
-// Answers the input and its end, in memory at its start: whether all was written. What could not be written ends the program.
+// Answers the input and its end, in memory at its start.
 fn answer_input<R: Read, W: Write>(
     counts: &mut [u32],
     words: &mut [u16],
@@ -136,18 +123,15 @@ fn answer_input<R: Read, W: Write>(
     out: &mut [u8],
     reader: &mut R,
     writer: &mut W,
-) -> bool
+) -> io::Result<()>
     requires { Fresh (memory counts.old words.old session.old changes.old out.old) × (max_changes ≤ length changes.old) × (output_size ≤ length out.old) × (front_size ≤ length front.old) }
-    ensures { result ≡ true → (bytes : List ℕ) × (output : List ℕ) × InputCalls (memory counts.old words.old session.old changes.old out.old) [] bytes output × (output ≡ program bytes)
-        × Consumes (R.remaining reader.old) (R.remaining reader.new) bytes × Appends (W.contents writer.old) (W.contents writer.new) output }
+    ensures { OnOk result ((bytes : List ℕ) × (output : List ℕ) × InputCalls (memory counts.old words.old session.old changes.old out.old) [] bytes output × (output ≡ program bytes)
+        × Consumes (R.remaining reader.old) (R.remaining reader.new) bytes × Appends (W.contents writer.old) (W.contents writer.new) output) }
 {
     let begun = answer_blocks(
         counts, words, session, changes, front, block, out, reader, writer,
-    );
-    if !begun.written {
-        return false;
-    }
-    let progress = answer_end(counts, words, session, changes, front, begun.used, out);
+    )?;
+    let progress = answer_end(counts, words, session, changes, front, begun, out).unwrap();
     write_out(writer, &out[..progress.written])
 }
 
@@ -157,7 +141,7 @@ const BLOCK_LENT: usize = 65536;
 // The output: more than the longest answer, so that it holds many of them, and writes are few.
 const OUTPUT_LENT: usize = 524288;
 
-// The memory is zero at the start, which is the machine's start too.
+// The memory is zero at the start, which is the machine's start too. What cannot be written ends the program, and nothing is said of it.
 fn main(rt: HostRuntime) {
     let mut counts = [0u32; COUNTS_SIZE];
     let mut words = [0u16; WORDS_SIZE];
@@ -168,7 +152,7 @@ fn main(rt: HostRuntime) {
     let mut out = [0u8; OUTPUT_LENT];
     let mut reader = rt.stdin();
     let mut writer = rt.stdout();
-    answer_input(
+    let _ = answer_input(
         &mut counts,
         &mut words,
         &mut session,

@@ -1,6 +1,5 @@
 -- Each turn takes a line, or the rest of the block.
 use Prim.Native.Nat.{◌-◌}
-use mathlib.Core.Path.{◌≡◌}
 use lib.ListN.{length}
 use Rattle.frames.specs.Machine.{memory}
 use Rattle.frames.specs.Blocks.{point}
@@ -10,8 +9,6 @@ use Rattle.frame_input.proofs.pass_over.Given as goal
 abbrev pub invariant-loop-at : goal.invariant-loop-at
 invariant-loop-at l =
     Upto l.block (point l.initial.front l.begun 0 0 (memory l.initial.counts l.initial.words l.initial.session l.initial.changes l.initial.out)) (point l.front l.line l.at l.written (memory l.counts l.words l.session l.changes l.out))
-    × (length l.counts ≡ length l.initial.counts) × (length l.words ≡ length l.initial.words) × (length l.session ≡ length l.initial.session) × (length l.changes ≡ length l.initial.changes)
-    × (length l.front ≡ length l.initial.front) × (length l.out ≡ length l.initial.out)
 
 abbrev pub decreases-loop-at : goal.decreases-loop-at
 decreases-loop-at l =

@@ -1,16 +1,12 @@
--- The frame at its moment.
+-- What the memory's own rules leave.
 use native.Mathlib.Omega.{arith}
-use Rattle.frames.specs.Machine.{Memory, memory}
-use Rattle.frames.proofs.Takes.{Passed, rules-passed, answers-before, answers-after}
+use Rattle.frames.specs.Machine.{memory}
+use Rattle.frames.proofs.Takes.{Passed, rules-passed}
 use Rattle.frame_machine.proofs.answer_line.Goals as goal
 use Rattle.frame_machine.proofs.answer_line.Goals.{Start}
 
--- the memory at entry, and what its rules leave
-abbrev lent : Start → Memory
-lent c = memory c.args.counts.now c.args.words.now c.args.session.now c.args.changes.now c.args.out.now
-
-passed : (c : Start) → Passed (lent c)
-passed c = rules-passed (lent c) c.requires
+passed : (c : Start) → Passed (memory c.args.counts.now c.args.words.now c.args.session.now c.args.changes.now c.args.out.now)
+passed c = rules-passed _ c.requires
 
 pub bounds-counts-0 : goal.bounds-counts-0
 bounds-counts-0 c =
@@ -23,13 +19,3 @@ before_run-requires c =
 pub after_run-requires : goal.after_run-requires
 after_run-requires c =
     (passed (goal.at.after_run-requires c).Start).out
-
-pub returns-then-counts-eq0 : goal.returns-then-counts-eq0
-returns-then-counts-eq0 c =
-    answers-before (lent (goal.at.returns-then-counts-eq0 c).Start) c.args.line.now _ _ c.if-counts-eq0.true
-    (rw (← c.read_frame-frame.ensures) c.before_run.ensures)
-
-pub returns-else-counts-eq0 : goal.returns-else-counts-eq0
-returns-else-counts-eq0 c =
-    answers-after (lent (goal.at.returns-else-counts-eq0 c).Start) c.args.line.now _ _ c.if-counts-eq0.false
-    (rw (← c.read_frame-frame.ensures) (c.after_run.ensures _ _))

@@ -2,7 +2,6 @@
 -- calls answered is what the writer was given.
 use Prim.Native.Nat.{ℕ, ◌-◌, ◌≤◌}
 use mathlib.Core.Path.{◌≡◌}
-use mathlib.Core.Bool.{true}
 use mathlib.Core.List.{List}
 use lib.ListN.{length, take}
 use Rattle.std.specs.Io.KnownBytes.{Appends}
@@ -14,12 +13,11 @@ use Rattle.trigger.proofs.answer_whole.Given as goal
 
 abbrev pub invariant-loop-at : goal.invariant-loop-at
 invariant-loop-at g l =
-    (verdict (input_rules (memory l.counts l.words l.session l.changes l.out) l.front) ≡ 0) × (length l.counts ≡ length l.initial.counts) × (length l.words ≡ length l.initial.words)
-    × (length l.session ≡ length l.initial.session) × (length l.changes ≡ length l.initial.changes) × (length l.front ≡ length l.initial.front) × (length l.out ≡ length l.initial.out)
+    (verdict (input_rules (memory l.counts l.words l.session l.changes l.out) l.front) ≡ 0)
     × (l.at ≤ length l.block)
     × (output : List ℕ)
     × Within (memory l.initial.counts l.initial.words l.initial.session l.initial.changes l.initial.out) (take l.begun l.initial.front) l.block output (memory l.counts l.words l.session l.changes l.out) (take l.line l.front) l.at
-    × (l.written ≡ true → Appends (g.W.Write.contents l.initial.writer) (g.W.Write.contents l.writer) output)
+    × Appends (g.W.Write.contents l.initial.writer) (g.W.Write.contents l.writer) output
 
 abbrev pub decreases-loop-at : goal.decreases-loop-at
 decreases-loop-at g l =
