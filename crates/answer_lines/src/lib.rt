@@ -3,13 +3,13 @@
 
 ghost use Rattle.std.specs.Prelude.{◌≡◌, [], ◌∷◌, ◌++◌, ◌+◌, ◌*◌, ◌<◌, ◌≤◌, length};
 ghost use Rattle.listing.specs.Placed.{Placed};
-ghost use Rattle.promises.specs.Answers.{told, handed_back};
+ghost use Rattle.promises.specs.Answers.{number, told, handed_back};
 ghost use Rattle.frames.specs.Digits as d;
 ghost use Rattle.frames.specs.Outputs as o;
 
 use digits::put_digits;
-use promises::Answer;
-use reports::{changed_part, says};
+use promises::{Answer, Refusal};
+use reports::changed_part;
 
 // The kinds of output lines, by their numbers.
 #[derive(Clone, Copy, Debug, PartialEq, Eq)]
@@ -39,12 +39,14 @@ pub fn put_head(out: &mut [u8], at: usize, kind: u32, number: u32) -> usize
 }
 
 // Writes the line of a refusal.
-pub fn put_refusal(out: &mut [u8], at: usize, rule: u8) -> usize
+pub fn put_refusal(out: &mut [u8], at: usize, rule: Refusal) -> usize
     requires { at + 5 ≤ length out.old }
-    ensures { Placed out.old at (o.refusal rule) out.new result }
+    ensures { Placed out.old at (o.refusal (number rule)) out.new result }
 {
-    let next = put_head(out, at, Kind::Refusal as u32, rule as u32);
-    put_byte(out, next, b'\n')
+    let number = u32::from(u8::from(rule));
+    let next = put_head(out, at, Kind::Refusal as u32, number);
+    put_byte(out, next, b'
+')
 }
 
 // Writes two numbers of four digits, and the line feed.
@@ -124,11 +126,11 @@ pub fn put_answer(out: &mut [u8], answer: Answer, room: &[i32]) -> usize
     ensures { Placed out.old 0 (o.answered (told answer) (handed_back room.now answer)) out.new result }
 {
     match answer {
-        Answer::Accepted(report) => {
-            let firing = report.firing;
-            let next = put_report(out, 0, says(firing), report.trials, report.changes);
+        Ok(report) => {
+            let fires = bool::from(report.firing);
+            let next = put_report(out, 0, fires, report.trials, report.changes);
             put_changes(out, next, changed_part(room, answer))
         }
-        Answer::Refused(rule) => put_refusal(out, 0, rule),
+        Err(rule) => put_refusal(out, 0, rule),
     }
 }
