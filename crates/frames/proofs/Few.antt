@@ -1,17 +1,19 @@
 -- Answers are short: a change list has a place for each pair at most, an order has each state once.
 use Prim.Native.Nat.{ℕ, ◌≤◌}
 use native.Mathlib.Omega.{arith}
-use mathlib.Core.Path.{◌≡◌, sym, ◌∙◌, ap}
+use mathlib.Core.Path.{◌≡◌, ◌∙◌, ap}
 use mathlib.Core.Logic.{⊎_elim}
 use mathlib.Core.List.{List, []}
 use lib.IntN.{ℤ}
 use lib.ListN.{length, drop}
+use Rattle.std.specs.Prelude.{Ok}
 use Rattle.session.specs.Limits.{max_states, max_nodes, max_changes}
 use Rattle.session.specs.Trigger.{Trigger, Graph, Marks, states, nodes}
 use Rattle.session.specs.Layout.{trigger_of, graph_of, marks_of}
 use Rattle.session.proofs.Decoded.{layout-facts}
 use Rattle.listing.specs.Changes.{changes}
-use Rattle.promises.specs.Answers.{Answer, OrderAnswer, accepted, outcome, told, told_order, changes_told, handed_back}
+use Rattle.promises.specs.declared.StateOrder.{StateOrder}
+use Rattle.promises.specs.Answers.{Answer, accepted, outcome, told, changes_told, handed_back}
 use Rattle.promises.specs.Rules.{Kind, Given, given_trigger, given_graph, edited, verdict, load_rules, edit_rules, question_rules}
 use Rattle.promises.specs.Promises.{Reported, Loaded, Edited, Ordered}
 use Rattle.promises.proofs.Counted.{list-few}
@@ -56,16 +58,16 @@ edited-few k s a b c r s' c' p =
     (λ bad. refused-few c' r (ap changes_told (p.refuses bad).answer))
     (accepts-or (verdict (edit_rules k s (length c) a b)))
 
-pub ordered-few : (s : List ℕ) (r : OrderAnswer) (n : ℕ) → Ordered s r → told_order r ≡ accepted n → n ≤ max_states
-ordered-few s r n p says =
+pub order_few : (s : List ℕ) (o : StateOrder) → Ordered s (Ok o) → o.count ≤ max_states
+order_few s o p =
     let v = verdict (question_rules s []) in
     let st = states (trigger_of s) in
     ⊎_elim
     (λ ok.
-    let z : accepted n ≡ accepted st = sym says ∙ p.answer ∙ ap (λ (k : ℕ). outcome k st) ok in
-    let e : n ≡ st = cc z in
+    let z : accepted o.count ≡ accepted st = p.answer ∙ ap (λ (k : ℕ). outcome k st) ok in
+    let e : o.count ≡ st = cc z in
     omega (arith, e, (layout-facts s (question-passed s [] ok).0).trigger.few))
     (λ bad.
-    let z : ◌≡◌ {A = ℕ} 0 1 = cc (sym says, p.answer ∙ outcome-refused v st bad) in
+    let z : ◌≡◌ {A = ℕ} 0 1 = cc (p.answer ∙ outcome-refused v st bad) in
     absurd (omega arith))
     (accepts-or v)

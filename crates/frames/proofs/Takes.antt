@@ -1,7 +1,7 @@
 -- What the machine's functions use of its promises.
 use Rattle.session.proofs.Tables.{part-from}
 use Prim.Native.Nat.{ℕ, ◌+◌, ◌-◌, ◌≤◌}
-use native.Mathlib.Nat.{zero-add, sub-zero}
+use native.Mathlib.Nat.{zero-add}
 use native.Mathlib.Omega.{arith}
 use mathlib.Core.Path.{◌≡◌, refl, sym, ◌∙◌, ap, subst}
 use mathlib.Core.Logic.{⊎_elim}
@@ -13,18 +13,13 @@ use lib.ListN.{length, get_or, set, take, drop}
 use lib.Seq.{get_or-set_same, get_or-set_other}
 use borrow.Author.Tests.{le-ltb, ltb-false, leb-false}
 use Rattle.simulation.proofs.Sets.{or_false_l, or_false_r}
-use Rattle.std.specs.Prelude.{Some, Ok}
+use Rattle.std.specs.Prelude.{Ok}
 use Rattle.session.specs.Limits.{fixed_size, max_states, max_nodes, max_changes}
 use Rattle.listing.specs.Placed.{Placed}
 use Rattle.promises.specs.Answers.{Outcome, Summary, accepted, refused, told}
 use Rattle.promises.specs.Rules.{rule, verdict, given}
 use Rattle.promises.proofs.Verdicts.{accepts-or, verdict_pass}
-use Rattle.frames.specs.declared.Frame as declared
-use Rattle.frames.specs.declared.Frame.TheVariants as F
-use Rattle.frames.specs.declared.State.{State}
-use Rattle.frames.specs.declared.Edge.{Edge}
-use Rattle.frames.specs.Frames.{Frame, state, node, run, edit, walk, nothing, said, frame_of}
-use Rattle.frames.specs.Outputs.{refusal}
+use Rattle.frames.specs.Frames.{Frame, state, node, run, edit, walk, nothing, frame_of}
 use Rattle.frames.specs.Machine.{
   Memory,
   memory,
@@ -61,37 +56,17 @@ printed-front counts words s c {out} {bytes} {out'} {n} p = record {
 
 -- what the run loads is what was read so far
 pub read_parts : (m : Memory) (inverted : ℕ) → inverted ≡ inverted_read m → let n = states_read m in
-    given (take (n - 0) m.words) (take (values_in + n - values_in) (drop values_in m.words)) (take (links_in + n - links_in) (drop links_in m.counts))
+    given (take n m.words) (take (values_in + n - values_in) (drop values_in m.words)) (take (links_in + n - links_in) (drop links_in m.counts))
     inverted (take (samples_in + nodes_read m - samples_in) (drop samples_in m.words)) [] []
     ≡ read_so_far m
 unfolding read_so_far
 read_parts m inverted e =
     rw (
       e,
-      sub-zero,
       part-from m.words values_in (states_read m),
       part-from m.counts links_in (states_read m),
       part-from m.words samples_in (nodes_read m),
     )
-
--- ---- a frame of the other moment: edits and the order are early, states, nodes and the run are late
-
-module _ (m m' : Memory) (n : ℕ) (p : Prints (refusal 2) m n m') where
-  pub early : (g : declared.Frame) → ((s : State) → g ≡ F.State s → ⊥) → ((x : ℕ) → g ≡ F.Node x → ⊥) → (g ≡ F.Run → ⊥) → Before (said (Some g)) m n m'
-  early (F.State s) a b c = absurd (a s refl)
-  early (F.Node x) a b c = absurd (b x refl)
-  early F.Run a b c = absurd (c refl)
-  early (F.Insert e) a b c = p
-  early (F.Delete e) a b c = p
-  early F.Walk a b c = p
-
-  pub late : (g : declared.Frame) → ((e : Edge) → g ≡ F.Insert e → ⊥) → ((e : Edge) → g ≡ F.Delete e → ⊥) → (g ≡ F.Walk → ⊥) → After (said (Some g)) m n m'
-  late (F.State s) a b c = p
-  late (F.Node x) a b c = p
-  late F.Run a b c = p
-  late (F.Insert e) a b c = absurd (a e refl)
-  late (F.Delete e) a b c = absurd (b e refl)
-  late F.Walk a b c = absurd (c refl)
 
 -- ---- a memory that breaks no rule of its own
 

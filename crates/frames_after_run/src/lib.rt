@@ -9,7 +9,7 @@ ghost use Rattle.frames.specs.Machine as m;
 use answer_lines::{put_answer, put_order, put_refusal};
 use edit_calls::edit;
 use frames::Frame;
-use promises::OrderAnswer;
+use promises::Refusal;
 use questions::order;
 
 // Inserts or deletes an edge.
@@ -29,29 +29,32 @@ pub fn edit_line(
 }
 
 // Writes the depth-first order.
+#[tactic(auto, using(frames::proofs::Few::order_few))]
 pub fn walk_line(session: &[u32], out: &mut [u8]) -> usize
     requires { m.output_size ≤ length out.old }
     ensures { (counts : List ℕ) → (words : List ℕ) → (c : List ℤ) → m.Walked (m.memory counts words session.now c out.old) result (m.memory counts words session.now c out.new) }
 {
-    let walk = order(session);
-    let answer = walk.answer;
-    let states = walk.states;
-    match answer {
-        OrderAnswer::Listed(n) => put_order(out, 0, &states[..n as usize]),
-        OrderAnswer::Refused(n) => put_refusal(out, 0, n),
+    match order(session) {
+        Ok(order) => put_order(out, 0, &order.states[..order.count as usize]),
+        Err(rule) => put_refusal(out, 0, rule),
     }
 }
 
 // A frame after an accepted run.
-pub fn after_run(session: &mut [u32], changes: &mut [i32], frame: Frame, out: &mut [u8]) -> usize
+pub fn after_run(
+    session: &mut [u32],
+    changes: &mut [i32],
+    frame: Option<Frame>,
+    out: &mut [u8],
+) -> usize
     requires { m.output_size ≤ length out.old }
     ensures { (counts : List ℕ) → (words : List ℕ) → m.After (f.said frame) (m.memory counts words session.old changes.old out.old) result (m.memory counts words session.new changes.new out.new) }
 {
     match frame {
-        Frame::Insert(edge) => edit_line(session, changes, true, edge.start, edge.end, out),
-        Frame::Delete(edge) => edit_line(session, changes, false, edge.start, edge.end, out),
-        Frame::Walk => walk_line(session, out),
-        Frame::Nothing => put_refusal(out, 0, 1),
-        _ => put_refusal(out, 0, 2),
+        Some(Frame::Insert(edge)) => edit_line(session, changes, true, edge.start, edge.end, out),
+        Some(Frame::Delete(edge)) => edit_line(session, changes, false, edge.start, edge.end, out),
+        Some(Frame::Walk) => walk_line(session, out),
+        Some(_) => put_refusal(out, 0, Refusal::NotNow),
+        None => put_refusal(out, 0, Refusal::NoFrame),
     }
 }

@@ -10,7 +10,7 @@ ghost use Rattle.frames.specs.Machine as m;
 use answer_lines::{put_answer, put_refusal};
 use frames::{Frame, State};
 use loading::load;
-use promises::Answer;
+use promises::{Answer, Refusal};
 
 // The places of the counts and of the words.
 pub const INVERTED_IN: usize = 3;
@@ -39,7 +39,7 @@ pub fn state_line(counts: &mut [u32], words: &mut [u16], state: State, out: &mut
 {
     let n = counts[1] as usize;
     if session::MAX_STATES <= n {
-        return put_refusal(out, 0, 4);
+        return put_refusal(out, 0, Refusal::StatesWrong);
     }
     counts[LINKS_IN + n] = state.links;
     counts[INVERTED_IN] = also_inverted(counts[INVERTED_IN], n as u32, state.inverted);
@@ -56,7 +56,7 @@ pub fn node_line(counts: &mut [u32], words: &mut [u16], sample: u16, out: &mut [
 {
     let n = counts[2] as usize;
     if session::MAX_NODES <= n {
-        return put_refusal(out, 0, 6);
+        return put_refusal(out, 0, Refusal::NodesWrong);
     }
     counts[2] = (n + 1) as u32;
     words[SAMPLES_IN + n] = sample;
@@ -68,11 +68,8 @@ pub fn move_on(counts: &mut [u32], answer: Answer)
     requires { 0 < length counts.old }
     ensures { counts.new ≡ m.moved (told answer) counts.old }
 {
-    match answer {
-        Answer::Accepted(_) => {
-            counts[0] = 1;
-        }
-        Answer::Refused(_) => {}
+    if answer.is_ok() {
+        counts[0] = 1;
     }
 }
 
@@ -89,19 +86,16 @@ pub fn run_line(
 {
     let states = counts[1] as usize;
     let nodes = counts[2] as usize;
-    let values_end = VALUES_IN + states;
-    let links_end = LINKS_IN + states;
-    let samples_end = SAMPLES_IN + nodes;
     let inverted = bits::kept_below(counts[INVERTED_IN], states as u32);
     let answer = load(
         session,
-        &words[0..states],
-        &words[VALUES_IN..values_end],
-        &counts[LINKS_IN..links_end],
+        &words[..states],
+        &words[VALUES_IN..VALUES_IN + states],
+        &counts[LINKS_IN..LINKS_IN + states],
         inverted,
-        &words[SAMPLES_IN..samples_end],
-        &counts[0..0],
-        &counts[0..0],
+        &words[SAMPLES_IN..SAMPLES_IN + nodes],
+        &[],
+        &[],
         changes,
     );
     move_on(counts, answer);
@@ -114,17 +108,17 @@ pub fn before_run(
     words: &mut [u16],
     session: &mut [u32],
     changes: &mut [i32],
-    frame: Frame,
+    frame: Option<Frame>,
     out: &mut [u8],
 ) -> usize
     requires { (m.counts_size ≤ length counts.old) × (m.words_size ≤ length words.old) × (m.output_size ≤ length out.old) × (get_or counts.old 1 0 ≤ max_states) × (get_or counts.old 2 0 ≤ max_nodes) }
     ensures { m.Before (f.said frame) (m.memory counts.old words.old session.old changes.old out.old) result (m.memory counts.new words.new session.new changes.new out.new) }
 {
     match frame {
-        Frame::State(state) => state_line(counts, words, state, out),
-        Frame::Node(sample) => node_line(counts, words, sample, out),
-        Frame::Run => run_line(counts, words, session, changes, out),
-        Frame::Nothing => put_refusal(out, 0, 1),
-        _ => put_refusal(out, 0, 2),
+        Some(Frame::State(state)) => state_line(counts, words, state, out),
+        Some(Frame::Node(sample)) => node_line(counts, words, sample, out),
+        Some(Frame::Run) => run_line(counts, words, session, changes, out),
+        Some(_) => put_refusal(out, 0, Refusal::NotNow),
+        None => put_refusal(out, 0, Refusal::NoFrame),
     }
 }

@@ -131,8 +131,8 @@ fn answer_input<R: Read, W: Write>(
     let begun = answer_blocks(
         counts, words, session, changes, front, block, out, reader, writer,
     )?;
-    let progress = answer_end(counts, words, session, changes, front, begun, out).unwrap();
-    write_out(writer, &out[..progress.written])
+    let last = answer_end(counts, words, session, changes, front, begun, out).unwrap();
+    write_out(writer, &out[..last.written])
 }
 
 // The block: as much as is read at once.

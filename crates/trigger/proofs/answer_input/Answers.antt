@@ -16,18 +16,18 @@ answer_blocks-requires g c =
 
 pub slice_bounds-write_out-end : goal.slice_bounds-write_out-end
 slice_bounds-write_out-end g c =
-    end-written _ _ _ _ _ (end-told c.unwrap-progress.ensures c.answer_end.ensures) c.answer_blocks.ensures.unbroken
+    end-written _ _ _ _ _ (end-told c.unwrap-last.ensures c.answer_end.ensures) c.answer_blocks.ensures.unbroken
 
 pub slice_bounds-write_out-end-2 : goal.slice_bounds-write_out-end-2
 slice_bounds-write_out-end-2 g c =
-    sym (length-take-le _ _ (end-written _ _ _ _ _ (end-told c.unwrap-progress.ensures c.answer_end.ensures) c.answer_blocks.ensures.unbroken))
+    sym (length-take-le _ _ (end-written _ _ _ _ _ (end-told c.unwrap-last.ensures c.answer_end.ensures) c.answer_blocks.ensures.unbroken))
 
 pub returns : goal.returns
 returns g c =
     let b = c.answer_blocks in
     let e = c.answer_end in
-    let p = c.unwrap-progress.result in
-    let told = end-told c.unwrap-progress.ensures e.ensures in
+    let p = c.unwrap-last.result in
+    let told = end-told c.unwrap-last.ensures e.ensures in
     let l = c.in_ok-begun.ensures.calls in
     let calls = leads-end _ [] l.0 l.1 _ b.new.front c.in_ok-begun.begun (Ok p) _ l.2 told (told.told b.ensures.unbroken).0 in
     on_ok_weaker c.write_out.result
