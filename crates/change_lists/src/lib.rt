@@ -42,6 +42,7 @@ pub struct Pair {
     pub state: u32,
 }
 
+// The pair of a change. No `From`: `Pair::from(5)` would not say that the number is a change.
 pub fn pair_of(change: i32) -> Pair
     ensures { (result.node * node_span + result.state ≡ nat_abs change) × (result.state < node_span) }
 {

@@ -10,7 +10,8 @@ pub const LONGEST_FRAME: usize = 20;
 
 pub const KEPT: usize = LONGEST_FRAME + 1;
 
-// Where the block is read next, how long the front is then, and whether it is a whole line.
+// Where the block is read next, how long the front is then, and whether it is a whole line. A part of a line has the same two numbers,
+// so the flag stands beside them.
 #[derive(Clone, Copy, Debug, PartialEq, Eq)]
 pub struct Gathered {
     pub at: usize,
@@ -44,7 +45,8 @@ pub fn gather(front: &mut [u8], used: usize, block: &[u8], at: usize) -> Gathere
     let mut len = within(front, used);
     for next in at..block.len() {
         let byte = block[next];
-        if byte == b'\n' {
+        let feed = byte == b'\n';
+        if feed {
             return Gathered {
                 at: next + 1,
                 used: len,

@@ -2,8 +2,8 @@ use native.Mathlib.Omega.{arith}
 use Rattle.frames.proofs.Fronts.{sofar_more, sofar_line, sofar_over}
 use Rattle.line_gathering.proofs.gather.Goals as goal
 
-pub returns-then-byte-eq10 : goal.returns-then-byte-eq10
-returns-then-byte-eq10 c =
+pub returns-then-feed : goal.returns-then-feed
+returns-then-feed c =
     let a = c.args in
     let l = c.loop-next in
     sofar_line a.front.now a.used a.block.now a.at l.front l.len l.next l.invariant (omega arith) (omega arith)
