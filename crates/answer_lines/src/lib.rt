@@ -45,8 +45,7 @@ pub fn put_refusal(out: &mut [u8], at: usize, rule: Refusal) -> usize
 {
     let number = u32::from(u8::from(rule));
     let next = put_head(out, at, Kind::Refusal as u32, number);
-    put_byte(out, next, b'
-')
+    put_byte(out, next, b'\n')
 }
 
 // Writes two numbers of four digits, and the line feed.

@@ -10,7 +10,7 @@ ghost use Rattle.frames.specs.Machine as m;
 use answer_lines::{put_answer, put_refusal};
 use frames::{Frame, State};
 use loading::load;
-use promises::{Answer, Refusal};
+use promises::{Answer, Lists, Refusal};
 
 // The places of the counts and of the words.
 pub const INVERTED_IN: usize = 3;
@@ -87,17 +87,19 @@ pub fn run_line(
     let states = counts[1] as usize;
     let nodes = counts[2] as usize;
     let inverted = bits::kept_below(counts[INVERTED_IN], states as u32);
-    let answer = load(
-        session,
-        &words[..states],
-        &words[VALUES_IN..VALUES_IN + states],
-        &counts[LINKS_IN..LINKS_IN + states],
+    let masks = &words[..states];
+    let values = &words[VALUES_IN..VALUES_IN + states];
+    let samples = &words[SAMPLES_IN..SAMPLES_IN + nodes];
+    let lists = Lists {
+        masks,
+        values,
+        links: &counts[LINKS_IN..LINKS_IN + states],
         inverted,
-        &words[SAMPLES_IN..SAMPLES_IN + nodes],
-        &[],
-        &[],
-        changes,
-    );
+        samples,
+        starts: &[],
+        ends: &[],
+    };
+    let answer = load(session, &lists, changes);
     move_on(counts, answer);
     put_answer(out, answer, changes)
 }

@@ -9,7 +9,7 @@ ghost use Rattle.promises.specs.Promises.{Loaded, Inserted, Deleted, Matches, Fi
 ghost use Rattle.answer_numbers.specs.Packed.{Packs, answer_number, standing_number, firing_number, OrderWritten};
 
 use answer_numbers::{answer_number, fill_front, firing_number, order_number, standing_number};
-use promises::Refusal;
+use promises::{Lists, Refusal};
 
 // How many words a session has.
 #[unsafe(no_mangle)]
@@ -42,9 +42,16 @@ pub extern "C" fn trigger_load(
 ) -> u64
     ensures { Packs answer_number (λ a. Loaded (given masks.now values.now links.now inverted samples.now starts.now ends.now) session.old changes.old a session.new changes.new) result }
 {
-    answer_number(matching::load(
-        session, masks, values, links, inverted, samples, starts, ends, changes,
-    ))
+    let lists = Lists {
+        masks,
+        values,
+        links,
+        inverted,
+        samples,
+        starts,
+        ends,
+    };
+    answer_number(matching::load(session, &lists, changes))
 }
 
 // Inserts the edge from start to end.
