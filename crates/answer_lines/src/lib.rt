@@ -29,7 +29,7 @@ pub fn put_byte(out: &mut [u8], at: usize, byte: u8) -> usize
     at + 1
 }
 
-// Writes a kind, and a number of two digits.
+// Writes a kind, and a number of two digits. The kind comes as its number, of which the contract speaks.
 pub fn put_head(out: &mut [u8], at: usize, kind: u32, number: u32) -> usize
     requires { at + 4 ≤ length out.old }
     ensures { Placed out.old at (d.digits 2 kind ++ d.digits 2 number) out.new result }

@@ -121,7 +121,8 @@ fn first<const STATES: usize>(links: u32) -> [u32; STATES] {
     array::from_fn(|state| if state == 0 { links } else { 0 })
 }
 
-// The starts and the ends of the edges (0, 0), (0, 1), (0, 2), (0, 3), (1, 0) and so on, four from each node.
+// The starts and the ends of the edges (0, 0), (0, 1), (0, 2), (0, 3), (1, 0) and so on, four from each node. The remainder shows that a start
+// fits its type for any number of edges.
 fn starts<const EDGES: usize>() -> [u32; EDGES] {
     array::from_fn(|k| (k / 4 % 1024) as u32)
 }
