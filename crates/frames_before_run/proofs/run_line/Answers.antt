@@ -29,8 +29,8 @@ invariant_of-lists c =
     let half : (i : ℕ) → get_or c.args.words.now i 0 < 65536 = λ i. omega (arith, c.type_inv.words i) in
     record {
       masks_fit = fits-front c.args.words.now 65536 _ (omega arith) half;
-      values_fit = fits-part c.args.words.now 65536 _ _ (omega arith) half;
-      samples_fit = fits-part c.args.words.now 65536 _ _ (omega arith) half;
+      values_fit = fits-part c.args.words.now 65536 32 _ (omega arith) half;
+      samples_fit = fits-part c.args.words.now 65536 64 _ (omega arith) half;
     }
 
 pub put_answer-requires : goal.put_answer-requires
