@@ -4,7 +4,6 @@
 use matching::{Answer, Lists};
 use std::{array, io};
 
-
 fn show(rt: &impl Print, label: &str, answer: Answer) -> io::Result<()> {
     match answer {
         Ok(report) => {
@@ -40,6 +39,24 @@ const LEAST: Given<'static> = Given {
     ends: &[],
 };
 
+// The same as the engine takes it. That a list has half words is known of a parameter, and not of a field: so these lists come by themselves too.
+fn lists<'a>(
+    given: Given<'a>,
+    masks: &'a [u16],
+    values: &'a [u16],
+    samples: &'a [u16],
+) -> Lists<'a> {
+    Lists {
+        masks,
+        values,
+        links: given.links,
+        inverted: given.inverted,
+        samples,
+        starts: given.starts,
+        ends: given.ends,
+    }
+}
+
 // Loads what is given into lent memory, and shows the answer.
 fn attempt(
     rt: &impl Print,
@@ -48,15 +65,7 @@ fn attempt(
     session: &mut [u32],
     changes: &mut [i32],
 ) -> io::Result<()> {
-    let lists = Lists {
-        masks: given.masks,
-        values: given.values,
-        links: given.links,
-        inverted: given.inverted,
-        samples: given.samples,
-        starts: given.starts,
-        ends: given.ends,
-    };
+    let lists = lists(given, given.masks, given.values, given.samples);
     show(rt, label, matching::load(session, &lists, changes))
 }
 
