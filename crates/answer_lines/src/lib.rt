@@ -3,14 +3,14 @@
 
 ghost use Rattle.std.specs.Prelude.{◌≡◌, [], ◌∷◌, ◌++◌, ◌+◌, ◌*◌, ◌<◌, ◌≤◌, length};
 ghost use Rattle.listing.specs.Placed.{Placed};
-ghost use Rattle.promises.specs.Answers.{told, handed_back};
+ghost use Rattle.promises.specs.Answers.{number, told, handed_back};
 ghost use Rattle.frames.specs.Digits as d;
 ghost use Rattle.frames.specs.Outputs as o;
 
 use change_lists::size_of;
 use digits::put_digits;
-use promises::Answer;
-use reports::{changed_part, says};
+use promises::{Answer, Refusal};
+use reports::changed_part;
 
 // Writes one byte.
 pub fn put_byte(out: &mut [u8], at: usize, byte: u8) -> usize
@@ -31,11 +31,12 @@ pub fn put_head(out: &mut [u8], at: usize, kind: u32, number: u32) -> usize
 }
 
 // Writes the line of a refusal.
-pub fn put_refusal(out: &mut [u8], at: usize, rule: u8) -> usize
+pub fn put_refusal(out: &mut [u8], at: usize, rule: Refusal) -> usize
     requires { at + 5 ≤ length out.old }
-    ensures { Placed out.old at (o.refusal rule) out.new result }
+    ensures { Placed out.old at (o.refusal (number rule)) out.new result }
 {
-    let next = put_head(out, at, 143, rule as u32);
+    let number = u32::from(u8::from(rule));
+    let next = put_head(out, at, 143, number);
     put_byte(out, next, 10)
 }
 
@@ -125,11 +126,11 @@ pub fn put_answer(out: &mut [u8], answer: Answer, room: &[i32]) -> usize
     ensures { Placed out.old 0 (o.answered (told answer) (handed_back room.now answer)) out.new result }
 {
     match answer {
-        Answer::Accepted(report) => {
-            let firing = report.firing;
-            let next = put_report(out, 0, says(firing), report.trials, report.changes);
+        Ok(report) => {
+            let fires = bool::from(report.firing);
+            let next = put_report(out, 0, fires, report.trials, report.changes);
             put_changes(out, next, changed_part(room, answer))
         }
-        Answer::Refused(rule) => put_refusal(out, 0, rule),
+        Err(rule) => put_refusal(out, 0, rule),
     }
 }

@@ -10,12 +10,8 @@ use borrow.Author.Tests.{le-ltb}
 use Rattle.session.specs.Limits.{max_changes, fixed_size}
 use Rattle.session.specs.Trigger.{Trigger, Graph, states, nodes}
 use Rattle.listing.specs.Order as walk
-use Rattle.promises.specs.declared.Answer.{Answer}
-use Rattle.promises.specs.declared.Standing.{Standing}
-use Rattle.promises.specs.declared.FiringAnswer.{FiringAnswer}
-use Rattle.promises.specs.declared.StateOrder.{StateOrder}
 use Rattle.promises.specs.Standing.{stands, fires}
-use Rattle.promises.specs.Answers.{Outcome, Summary, outcome, accepted, told, told_standing, told_firing, told_order, handed_back}
+use Rattle.promises.specs.Answers.{Answer, StandingAnswer, FiringAnswer, OrderAnswer, places_told, Outcome, Summary, outcome, accepted, told, told_standing, told_firing, told_order, handed_back}
 use Rattle.promises.specs.Rules.{Kind, Given, given_trigger, given_graph, Rule, rule, verdict, load_rules}
 use Rattle.promises.specs.Promises.{load_list, Loaded, Edited, Matches, Fires, Ordered}
 use Rattle.promises.specs.Model.{Model, begun, model_rules, step, editing, load_summary, edit_list, edit_summary}
@@ -83,7 +79,7 @@ module _ (m : Model) (s : List ℕ) (f : Faithful m s) where
   abbrev g : Graph
   g = m.graph
 
-  heard-standing : (u v : ℕ) (r : Standing) → Matches s u v r
+  heard-standing : (u v : ℕ) (r : StandingAnswer) → Matches s u v r
       → heard_said (told_standing r) ≡ heard_said (outcome (verdict (pair_row m.trigger m.graph u v)) (stands m.trigger m.graph (u - 1) v))
   unfolding verdict
   heard-standing u v r p =
@@ -93,9 +89,9 @@ module _ (m : Model) (s : List ℕ) (f : Faithful m s) where
   heard-firing : (r : FiringAnswer) → Fires s r → heard_said (told_firing r) ≡ says (fires m.trigger m.graph (stands m.trigger m.graph))
   heard-firing r p = ap heard_said p ∙ rw (question m s f, holds-trigger m s f, holds-graph m s f, holds-marks m s f)
 
-  heard-order : (r : StateOrder) → Ordered s r → heard_order (told_order r.answer) r.states ≡ lists (walk.order m.trigger)
+  heard-order : (r : OrderAnswer) → Ordered s r → heard_order (told_order r) (places_told r) ≡ lists (walk.order m.trigger)
   heard-order r p =
-      ap (λ (o : Outcome ℕ). heard_order o r.states) (order-told m s f r p) ∙ ap lists (order-list m s f r p)
+      ap (λ (o : Outcome ℕ). heard_order o (places_told r)) (order-told m s f r p) ∙ ap lists (order-list m s f r p)
 
   heard-edit : (k : Kind) (a b : ℕ) (room : List ℤ) (r : Answer) (s' : List ℕ) (room' : List ℤ) → max_changes ≤ length room
       → Edited k s a b room r s' room'

@@ -21,10 +21,8 @@ use Rattle.session.specs.Layout.{table, below, names, image, trigger_of, graph_o
 use Rattle.session.proofs.Valid.{trigger-facts, graph-facts}
 use Rattle.session.proofs.Image.{length-image}
 use Rattle.session.proofs.Decoded.{Inside, trigger-image, graph-image, marks-image, layout-image}
-use Rattle.promises.specs.declared.Standing.{Standing}
-use Rattle.promises.specs.declared.FiringAnswer.{FiringAnswer}
 use Rattle.promises.specs.Standing.{stands, fires}
-use Rattle.promises.specs.Answers.{accepted, told_standing, told_firing}
+use Rattle.promises.specs.Answers.{StandingAnswer, FiringAnswer, accepted, told_standing, told_firing}
 use Rattle.promises.specs.Rules.{verdict}
 use Rattle.promises.specs.Promises.{Matches, Fires}
 use Rattle.cases.specs.Cases.{Every, none, ◌and◌}
@@ -58,7 +56,7 @@ module _ (c : Saved) (valid : (valid_trigger (trigger c) && (valid_graph (graph 
   long : ltb (length memory) fixed_size ≡ false
   long = le-ltb (length memory) fixed_size (omega (arith, length-append (image (trigger c) (graph c) (held c)) rest, length-image (trigger c) (graph c) (held c)))
 
-  answered : (b : Bool) (r : Standing) → ((leb 1 c.state && leb c.state (states (trigger c))) && ltb c.node (nodes (graph c))) ≡ true
+  answered : (b : Bool) (r : StandingAnswer) → ((leb 1 c.state && leb c.state (states (trigger c))) && ltb c.node (nodes (graph c))) ≡ true
       → held c (c.state - 1) c.node ≡ b → Matches memory c.state c.node r → told_standing r ≡ accepted b
   unfolding verdict
   answered b r there m p =

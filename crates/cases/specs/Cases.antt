@@ -3,11 +3,7 @@ use Rattle.std.specs.Prelude.{ℕ, ◌+◌, ◌-◌, ◌/◌, ◌%◌, ◌^◌, 
 use Rattle.bits.specs.Word.{half_bits}
 use Rattle.session.specs.Limits.{max_states, max_nodes, max_edges, max_changes, fixed_size}
 use Rattle.session.specs.Layout.{table}
-use Rattle.promises.specs.declared.Answer.{Answer}
-use Rattle.promises.specs.declared.Standing.{Standing}
-use Rattle.promises.specs.declared.FiringAnswer.{FiringAnswer}
-use Rattle.promises.specs.declared.StateOrder.{StateOrder}
-use Rattle.promises.specs.Answers.{Outcome, accepted, refused, Summary, told, told_standing, told_firing, told_order, handed_back}
+use Rattle.promises.specs.Answers.{Answer, StandingAnswer, FiringAnswer, OrderAnswer, places_told, Outcome, accepted, refused, Summary, told, told_standing, told_firing, told_order, handed_back}
 use Rattle.promises.specs.Rules.{Kind, insertion, deletion, Given, given}
 use Rattle.promises.specs.Promises.{Loaded, Edited, Matches, Fires, Ordered}
 
@@ -52,12 +48,12 @@ pub data Played : List ℕ → List Asked → List Told → Type 0 where
   edited : {s : List ℕ} {k : Kind} {a b : ℕ} {qs : List Asked} {ts : List Told} (room : List ℤ) (r : Answer) (s' : List ℕ) (room' : List ℤ)
       → max_changes ≤ length room → Edited k s a b room r s' room' → Played s' qs ts
       → Played s (edit k a b ∷ qs) (heard (told r) (handed_back room' r) ∷ ts)
-  stood : {s : List ℕ} {u v : ℕ} {qs : List Asked} {ts : List Told} (r : Standing) → Matches s u v r → Played s qs ts
+  stood : {s : List ℕ} {u v : ℕ} {qs : List Asked} {ts : List Told} (r : StandingAnswer) → Matches s u v r → Played s qs ts
       → Played s (standing u v ∷ qs) (heard_said (told_standing r) ∷ ts)
   fired : {s : List ℕ} {qs : List Asked} {ts : List Told} (r : FiringAnswer) → Fires s r → Played s qs ts
       → Played s (firing ∷ qs) (heard_said (told_firing r) ∷ ts)
-  ordered : {s : List ℕ} {qs : List Asked} {ts : List Told} (r : StateOrder) → Ordered s r → Played s qs ts
-      → Played s (order ∷ qs) (heard_order (told_order r.answer) r.states ∷ ts)
+  ordered : {s : List ℕ} {qs : List Asked} {ts : List Told} (r : OrderAnswer) → Ordered s r → Played s qs ts
+      → Played s (order ∷ qs) (heard_order (told_order r) (places_told r) ∷ ts)
 
 -- a row: what is loaded, what is then asked, and what is told, by the load first
 pub record Case : Type 0 where

@@ -5,10 +5,8 @@ use Rattle.bits.specs.Word.{members}
 use Rattle.session.specs.Trigger.{Trigger, Graph, Marks, states, nodes}
 use Rattle.session.specs.Former.{formerly, marks_fit}
 use Rattle.session.specs.Layout.{image}
-use Rattle.promises.specs.declared.Standing.{Standing}
-use Rattle.promises.specs.declared.FiringAnswer.{FiringAnswer}
 use Rattle.promises.specs.Standing.{stands}
-use Rattle.promises.specs.Answers.{accepted, told_standing, told_firing}
+use Rattle.promises.specs.Answers.{StandingAnswer, FiringAnswer, accepted, told_standing, told_firing}
 use Rattle.promises.specs.Rules.{Given, given, given_trigger, given_graph}
 use Rattle.promises.specs.Promises.{Matches, Fires}
 
@@ -37,7 +35,7 @@ module _ (c : Saved) where
 -- The fact of a row, whatever words follow the session: every answer that keeps its promise tells this, and so is not refused with 10.
 pub record Reopened (c : Saved) : Type 0 where
   pub fitted : marks_fit (formerly (trigger c) (graph c)) (trigger c) (graph c) (held c) ≡ c.fitted
-  pub stood : (rest : List ℕ) (r : Standing) → Matches (image (trigger c) (graph c) (held c) ++ rest) c.state c.node r
+  pub stood : (rest : List ℕ) (r : StandingAnswer) → Matches (image (trigger c) (graph c) (held c) ++ rest) c.state c.node r
       → told_standing r ≡ accepted c.stood
   pub fired : (rest : List ℕ) (r : FiringAnswer) → Fires (image (trigger c) (graph c) (held c) ++ rest) r → told_firing r ≡ accepted c.fired
   pub fresh : stands (trigger c) (graph c) (c.state - 1) c.node ≡ c.fresh

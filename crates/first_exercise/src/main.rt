@@ -1,7 +1,7 @@
 // The first exercise of the course through the library's calls: one state that is linked to itself, three nodes, a ring closed and opened.
 #![tactic(auto)]
 
-use matching::{Answer, Firing, FiringAnswer, OrderAnswer, Standing};
+use matching::{Answer, Standing};
 use std::io;
 
 // Each change: its pair, and whether it began to stand or ceased.
@@ -20,47 +20,32 @@ fn show_changes(rt: &impl Print, list: &[i32]) -> io::Result<()> {
     Ok(())
 }
 
-// Whether the trigger fires, in a word.
-fn show_firing(rt: &impl Print, firing: Firing) -> io::Result<()> {
-    match firing {
-        Firing::Fires => print!(rt; " fires"),
-        Firing::Silent => print!(rt; " silent"),
-    }
-}
-
 // The answer to a load or an edit, and the changes that it lists at the front of the room.
 fn show(rt: &impl Print, call: &str, answer: Answer, room: &[i32]) -> io::Result<()> {
-    print!(rt; "{call}")?;
     match answer {
-        Answer::Accepted(report) => {
-            show_firing(rt, report.firing)?;
+        Ok(report) => {
+            let firing = report.firing;
             let trials = report.trials;
-            println!(rt; ", pairs tried: {trials}")?;
+            println!(rt; "{call} {firing}, pairs tried: {trials}")?;
         }
-        Answer::Refused(rule) => println!(rt; " refused by rule {rule}")?,
+        Err(refusal) => println!(rt; "{call} refused by {refusal}")?,
     }
     show_changes(rt, matching::changed_part(room, answer))
 }
 
-// The three questions.
+// The three questions, none of which is refused here.
 fn ask(rt: &impl Print, session: &[u32]) -> io::Result<()> {
     match matching::matches(session, 1, 2) {
-        Standing::Stands => println!(rt; "state 1 stands at node 2")?,
-        Standing::Absent => println!(rt; "state 1 does not stand at node 2")?,
-        Standing::Refused(_) => {}
+        Ok(Standing::Stands) => println!(rt; "state 1 stands at node 2")?,
+        Ok(Standing::Absent) => println!(rt; "state 1 does not stand at node 2")?,
+        Err(_) => {}
     }
-    match matching::fires(session) {
-        FiringAnswer::Now(firing) => {
-            print!(rt; "the trigger:")?;
-            show_firing(rt, firing)?;
-            println!(rt; "")?;
-        }
-        FiringAnswer::Refused(_) => {}
+    if let Ok(firing) = matching::fires(session) {
+        println!(rt; "the trigger: {firing}")?;
     }
-    let walk = matching::order(session);
-    match walk.answer {
-        OrderAnswer::Listed(count) => println!(rt; "states in order: {count}")?,
-        OrderAnswer::Refused(_) => {}
+    if let Ok(order) = matching::order(session) {
+        let count = order.count;
+        println!(rt; "states in order: {count}")?;
     }
     Ok(())
 }

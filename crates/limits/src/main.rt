@@ -1,7 +1,7 @@
 // Loads at the limits of a trigger, a graph, the memory and the room: what each is answered.
 #![tactic(auto)]
 
-use matching::{Answer, Firing};
+use matching::Answer;
 use std::io;
 
 // One more of each list than a load may have, and one more word and place than it must have.
@@ -57,23 +57,15 @@ fn fill_ends(ends: &mut [u32]) {
     }
 }
 
-// Whether the trigger fires, in a word.
-fn word(firing: Firing) -> &'static str {
-    match firing {
-        Firing::Fires => "fires",
-        Firing::Silent => "silent",
-    }
-}
-
 fn show(rt: &impl Print, label: &str, answer: Answer) -> io::Result<()> {
     match answer {
-        Answer::Accepted(report) => {
-            let firing = word(report.firing);
+        Ok(report) => {
+            let firing = report.firing;
             let trials = report.trials;
             let changes = report.changes;
             println!(rt; "{label}: {firing}, {trials} tried, {changes} changed")
         }
-        Answer::Refused(number) => println!(rt; "{label}: refused, rule {number}"),
+        Err(refusal) => println!(rt; "{label}: refused, {refusal}"),
     }
 }
 

@@ -4,6 +4,6 @@
 pub use change_lists::{begins, pair_of, size_of};
 pub use edit_calls::{delete, insert};
 pub use loading::load;
-pub use promises::{Answer, Firing, FiringAnswer, OrderAnswer, Report, Standing, StateOrder};
+pub use promises::{Answer, Firing, Refusal, Report, Standing, StateOrder};
 pub use questions::{fires, matches, order};
 pub use reports::changed_part;

@@ -99,9 +99,8 @@ pub extern "C" fn trigger_order(session: &[u32], states: &mut [u8]) -> u64
         return order_number(Err(Refusal::MemoryShort));
     }
     let answer = matching::order(session);
-    match answer {
-        Ok(found) => fill_front(states, &found.states),
-        Err(_) => {}
+    if let Ok(order) = &answer {
+        fill_front(states, &order.states);
     }
     order_number(answer)
 }

@@ -13,20 +13,20 @@ use Rattle.answer_lines.proofs.put_answer.Goals.{After-changed_part}
 
 -- the part is the list handed back
 handed : (c : After-changed_part) → let a = c.args in c.changed_part.result.now ≡ handed_back a.room.now a.answer
-handed c = rw c.in-Accepted.is c.changed_part.ensures
+handed c = rw c.in-Ok.is c.changed_part.ensures
 
 pub put_changes-requires : goal.put_changes-requires
 put_changes-requires c =
     let k = c.put_report-next in
     let e = ap length (handed c) in
-    let v = c.in-Accepted.report in
-    omega (arith, e, room_after c.args.out.now 0 (report_line c.says.result v.trials v.changes) k.new.out k.result (change_size * length (handed_back c.args.room.now c.args.answer)) (omega (arith, c.requires, report-long c.says.result v.trials v.changes)) k.ensures)
+    let v = c.in-Ok.report in
+    omega (arith, e, room_after c.args.out.now 0 (report_line c.from-fires.result v.trials v.changes) k.new.out k.result (change_size * length (handed_back c.args.room.now c.args.answer)) (omega (arith, c.requires, report-long c.from-fires.result v.trials v.changes)) k.ensures)
 
-pub returns-in-Accepted : goal.returns-in-Accepted
-returns-in-Accepted c =
-    rw (ap told c.in-Accepted.is, ← handed (goal.at.returns-in-Accepted c).After-changed_part, ← c.says.ensures)
+pub returns-in-Ok : goal.returns-in-Ok
+returns-in-Ok c =
+    rw (ap told c.in-Ok.is, ← handed (goal.at.returns-in-Ok c).After-changed_part, ← c.from-fires.ensures)
     (placed-append (omega arith) c.put_report-next.ensures c.put_changes.ensures)
 
-pub returns-in-Refused : goal.returns-in-Refused
-returns-in-Refused c =
-    rw (ap told c.in-Refused.is) c.put_refusal.ensures
+pub returns-in-Err : goal.returns-in-Err
+returns-in-Err c =
+    rw (ap told c.in-Err.is) c.put_refusal.ensures
