@@ -87,9 +87,7 @@ pub fn answer_block(
     ensures { b.BlockTaken (memory counts.old words.old session.old changes.old out.old) front.old begun block.now result (memory counts.new words.new session.new changes.new out.new) front.new }
 {
     input_rule(counts, words, session, changes, front, out)?;
-    Ok(pass_over(
-        counts, words, session, changes, front, begun, block, out,
-    ))
+    Ok(pass_over(counts, words, session, changes, front, begun, block, out))
 }
 
 // Answers the line that the input's end ends, if one was begun.

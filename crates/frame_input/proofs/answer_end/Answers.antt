@@ -1,6 +1,6 @@
 -- A memory that breaks no rule of the input breaks none of its own.
 use mathlib.Core.Path.{sym}
-use Rattle.frames.specs.Machine.{Memory, memory}
+use Rattle.frames.specs.Machine.{memory}
 use Rattle.frames.proofs.Takes.{passed-rules}
 use Rattle.frames.proofs.Passing.{input_passed}
 use Rattle.frame_input.proofs.answer_end.Goals as goal
