@@ -93,10 +93,6 @@ module _ (t : Trigger) (g : Graph) (m : Marks) (rest : List ℕ) where
           ∙ ap (λ (b : List ℕ). begun (length g.edges) ++ b)
           (sym (append_assoc ps (drop k old) marks) ∙ ap (λ (b : List ℕ). b ++ marks) new)
 
--- what is written into a memory leaves what stands before it
-pub before-part : (p k : ℕ) (xs ps : List ℕ) → p ≤ length xs → p ≤ length (put_mid p k xs ps)
-before-part p k xs ps l = omega (arith, length-append (take p xs) (ps ++ drop k (drop p xs)), length-take-le p xs l)
-
 -- ---- a session in layout
 
 -- its counts, and its edges

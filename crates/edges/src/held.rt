@@ -6,7 +6,8 @@ ghost use Rattle.session.specs.Layout.{image, trigger_of, graph_of, marks_of, in
 
 use super::{drop_edge, put_edge};
 
-// Puts an edge into the session. Where it is new, all but what the marks say stays in layout.
+// Puts an edge into the session. Where it is new, all but what the marks say stays in layout. What this and the removal share is two lines: one function
+// over both would take a closure and the change of the number, and be longer.
 #[tactic(auto, using(crate::proofs::Stored::held))]
 pub fn insert_edge(session: &mut [u32], start: u32, end: u32)
     requires session_value { in_layout session.old ≡ true }

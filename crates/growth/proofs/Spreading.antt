@@ -1,6 +1,5 @@
 -- One look at a node: a node that gains states, and the predecessors one by one.
 use Prim.Native.Nat.{ℕ, ◌-◌, ◌/◌, ◌<◌}
-use native.Mathlib.Omega.{arith}
 use mathlib.Core.Path.{◌≡◌, refl, sym, ap, ap₂, fun_ext, ◌∙◌}
 use mathlib.Core.Logic.{⊎_elim}
 use mathlib.Core.Bool.{Bool, true, false, not, ◌&&◌, ◌||◌, or-false, or_assoc, and_comm}
@@ -18,7 +17,6 @@ use Rattle.links.specs.Links.{links_to}
 use Rattle.pair_tables.specs.Tables.{marked}
 use Rattle.worklist.specs.Waiting.{waits, waiting_words}
 use Rattle.edge_indexes.specs.Indexes.{Indexed}
-use Rattle.refinement.specs.Refining.{Sound}
 use Rattle.edge_indexes.proofs.Incoming.{Chained, chained_head, chained_next, called, called-head, called-next, called-all}
 use Rattle.growth.specs.Growth.{TriedAt, Spread}
 use Rattle.session.specs.Limits.{max_nodes}
@@ -142,10 +140,6 @@ module _ {es heads nexts : List ℕ} (x : Indexed es heads nexts) (fs : List ℕ
             ∙ ap (λ (b : Bool). b || not (eqb (get_or ts'' w 0) (get_or ts' w 0))) (y.waiting w)
             ∙ or_assoc (waits ws w) (not (eqb (get_or ts' w 0) (get_or ts w 0))) (not (eqb (get_or ts'' w 0) (get_or ts' w 0)))
             ∙ ap (λ (b : Bool). waits ws w || b) (joined (get_or ts w 0) (get_or ts' w 0) (get_or ts'' w 0) (grows w))
-
--- the last edge that is left starts at a node
-pub starts-inside : {links es : List ℕ} {v n : ℕ} → Sound max_nodes links es → Chained es v n → (n ≡ 0 → ⊥) → get_or es (n - 1) 0 / max_nodes < max_nodes
-starts-inside {links} {es} {v} {n} sound y some = sound.starts (n - 1) (omega (arith, some, y.within))
 
 -- no edge is left
 pub spreading_done : (links : List ℕ) {es fs : List ℕ} {v able : ℕ} {ts ws ws₁ ts' ws' : List ℕ} → Spreading es fs v able ts ws₁ ts' ws' 0

@@ -8,7 +8,7 @@ use mathlib.Core.List.{List}
 use lib.Dec.{ltb, eqb}
 use lib.ListN.{length, get_or, set, length-set}
 use lib.Seq.{get_or-set_same, get_or-set_other}
-use borrow.Author.Tests.{le-ltb, eqb-true, eqb-false, eq-eqb}
+use borrow.Author.Tests.{eqb-true, eqb-false, eq-eqb}
 use Rattle.simulation.specs.Sets.{Set, also, without}
 use Rattle.simulation.proofs.Sets.{split, same, and_make, and_l, and_r, any_make, any_take}
 use Rattle.bits.specs.Word.{members, meets}
@@ -62,13 +62,6 @@ module _ (k : ℕ) (links : List ℕ) where
     pub long : length callers ≡ k
     pub words : (x o : ℕ) → marked callers x o ≡ (ltb x n && marked links o x)
 
-  pub called-start : {callers : List ℕ} → length callers ≡ k → ((o : ℕ) → get_or callers o 0 ≡ 0) → Called 0 callers
-  called-start l z = record {
-    few = omega arith;
-    long = l;
-    words = λ x o. rw (z o, zero-members x, le-ltb x 0 (omega arith));
-  }
-
   pub called_more : {n : ℕ} {old new : List ℕ} → Called n old → n < length links → length new ≡ length old
       → ((x o : ℕ) → marked new x o ≡ (marked old x o || (eqb x n && marked links o n)))
       → Called (n + 1) new
@@ -77,9 +70,6 @@ module _ (k : ℕ) (links : List ℕ) where
     long = e ∙ c.long;
     words = row_more (λ x o. marked links o x) (marked old) (marked new) n c.words h;
   }
-
-  pub called-end : {n : ℕ} {callers : List ℕ} → Called n callers → n ≡ length links → CallersIn k links callers
-  called-end c e = record { long = c.long; called = λ o u l. rw (← e) (c.words u o) }
 
 -- ---- from a set its callers are those with a link to it
 

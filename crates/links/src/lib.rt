@@ -7,7 +7,7 @@ ghost use Rattle.bits.specs.Word.{members, set_bits};
 ghost use Rattle.session.specs.Reached.{reached, linked_by};
 ghost use Rattle.links.specs.Links.{linked_from, links_to, Callers};
 
-// The states to which a state of the word has a link.
+// The states to which a state of the word has a link. The loops over a set take its lowest member out each time; they count no index.
 #[tactic(auto, using(simulation::proofs::Loops::without_falls))]
 pub fn linked(links: &[u32], word: u32) -> u32
     requires { length links.now ≤ set_bits }

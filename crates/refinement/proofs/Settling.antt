@@ -2,7 +2,7 @@
 use Prim.Native.Nat.{ℕ, ◌+◌, ◌-◌, ◌*◌, ◌/◌, ◌%◌, ◌^◌, ◌<◌, ◌≤◌}
 use native.Mathlib.Nat.{mod-lt, div-lt_iff_lt-mul}
 use native.Mathlib.Omega.{arith}
-use mathlib.Core.Path.{◌≡◌, refl, sym, ◌∙◌, ap, ap₂, fun_ext, subst}
+use mathlib.Core.Path.{◌≡◌, sym, ◌∙◌, ap, ap₂, fun_ext, subst}
 use mathlib.Core.Logic.{◌⊎◌, inl, inr, ⊎_elim}
 use mathlib.Core.Bool.{Bool, true, false, not, ◌&&◌, ◌||◌, and-false, or-false}
 use mathlib.Core.List.{List}
@@ -30,7 +30,7 @@ use Rattle.pair_tables.specs.Tables.{marked}
 use Rattle.links.specs.Links.{links_to}
 use Rattle.refinement.specs.Refining.{carried, whole, kept_of, Sound, Turned, pattern_of, tabled, Refining, Settled}
 use Rattle.edge_indexes.specs.Indexes.{edges_from, ends_at, predecessors, starts_size}
-use Rattle.worklist.specs.Waiting.{waits, waiting_words, lowest_waiting}
+use Rattle.worklist.specs.Waiting.{waits, lowest_waiting}
 
 -- ---- the edges from a node
 
@@ -365,16 +365,6 @@ module _ (nodes : ℕ) (links es : List ℕ) (sound : Sound nodes links es) wher
     -- ---- the whole refinement, from the table ts₀ and the nodes ws₀
 
     module _ (ts₀ ws₀ : List ℕ) where
-      pub refining_start : (v : ℕ) → length ts₀ ≡ max_nodes → length ws₀ ≡ waiting_words → v ≡ first (waits ws₀) 0 max_nodes → Refining nodes links es ss ts₀ ws₀ ts₀ ws₀ v
-      refining_start v long waits_long lowest = record {
-        long = long;
-        waits_long = waits_long;
-        lowest = lowest;
-        within = λ u w h. h;
-        refines = refl;
-        supports = λ h. h;
-      }
-
       pub refining_turn : (ts ws : List ℕ) (u v : ℕ) (ts' ws' : List ℕ) (v' : ℕ) → Refining nodes links es ss ts₀ ws₀ ts ws u → Turned links es ss ts ws v ts' ws'
           → v' ≡ first (waits ws') 0 max_nodes → Refining nodes links es ss ts₀ ws₀ ts' ws' v'
       refining_turn ts ws u v ts' ws' v' r turned lowest = record {
@@ -414,14 +404,4 @@ module _ (nodes : ℕ) (links es : List ℕ) (sound : Sound nodes links es) wher
             r.supports h q ((div-lt_iff_lt-mul sound.some_state).0 inside) m
             (first-before (waits ws) 0 max_nodes (q / n) (omega arith) (omega (arith, r.lowest)))))
             ∙ r.refines);
-      }
-
-      -- a refinement that goes on from there leaves what one from the beginning does
-      pub refining_then : (ts ws : List ℕ) (v : ℕ) (ts' : List ℕ) → Refining nodes links es ss ts₀ ws₀ ts ws v → Settled nodes links es ss ts ws ts' → length ts₀ ≡ max_nodes
-          → Settled nodes links es ss ts₀ ws₀ ts'
-      refining_then ts ws v ts' r further long = record {
-        long = further.long ∙ r.long ∙ sym long;
-        within = λ u w h. r.within u w (further.within u w h);
-        holds = λ p h. further.holds p (subst (λ (X : Set). In X p) (sym r.refines) h);
-        exact = λ h p l. further.exact (r.supports h) p l ∙ ap (λ (X : Set). X p) r.refines;
       }

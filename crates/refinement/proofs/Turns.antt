@@ -11,7 +11,7 @@ use Rattle.simulation.specs.Sets.{Set, minus, without, any_below}
 use Rattle.simulation.proofs.Sets.{clash, refuted, and_none, any_take}
 use Rattle.bits.specs.Word.{members, overlaps, set_bits}
 use Rattle.bits.proofs.Words.{zero-members}
-use Rattle.session.specs.Limits.{max_nodes, edge_numbers}
+use Rattle.session.specs.Limits.{edge_numbers}
 use Rattle.session.specs.Layout.{below}
 use Rattle.session.proofs.Tables.{below_make}
 use Rattle.links.specs.Links.{links_to}
@@ -23,18 +23,6 @@ use Rattle.links.proofs.LinkSets.{links-none}
 -- edges between nodes are small numbers
 pub sound_below : (nodes : ℕ) (links es : List ℕ) → Sound nodes links es → below edge_numbers es ≡ true
 sound_below nodes links es s = below_make edge_numbers es (λ k l. omega (arith, s.starts k l, s.few_nodes))
-
--- a sound list is sound for all the nodes there may be
-pub sound_wider : (nodes : ℕ) (links es : List ℕ) → Sound nodes links es → Sound max_nodes links es
-sound_wider nodes links es s = record {
-  some_state = s.some_state;
-  few_states = s.few_states;
-  few_nodes = omega arith;
-  few_edges = s.few_edges;
-  ascend = s.ascend;
-  starts = λ k l. omega (arith, s.starts k l, s.few_nodes);
-  ends = λ k l. omega (arith, s.ends k l, s.few_nodes);
-}
 
 module _ (links es ss ts ws : List ℕ) (v : ℕ) (inside : v < length ts) (ws₁ : List ℕ) (long : length ws₁ ≡ length ws)
     (out : waits ws₁ ≡ without (waits ws) v) (left : ℕ) (kept : members left ≡ kept_of (get_or ts v 0) links (edges_from es v) ss ts) where

@@ -7,7 +7,7 @@ use mathlib.Core.Bool.{Bool, true, false, ◌&&◌, ◌||◌, or-false, or_comm}
 use mathlib.Core.List.{List}
 use lib.Dec.{eqb}
 use lib.ListN.{length, get_or}
-use borrow.Author.Tests.{eqb-true, eqb-false, eq-eqb, ne_eqb}
+use borrow.Author.Tests.{eqb-true, eqb-false, eq-eqb}
 use Rattle.simulation.specs.Sets.{Set, any_below, also}
 use Rattle.simulation.proofs.Sets.{clash, split, refuted, and_l, and_r, or-both}
 use Rattle.worklist.specs.Waiting.{waits}
@@ -124,13 +124,6 @@ module _ (edge v : ℕ) (P : Set) (ws : List ℕ) where
       eqb-false w (edge / max_nodes) t
       (sym (eqb-true (edge / max_nodes) w (and_r (eqb (edge % max_nodes) v) (eqb (edge / max_nodes) w) (and_l (eqb (edge % max_nodes) v && eqb (edge / max_nodes) w) (P w) h)))))))
       (split (eqb w (edge / max_nodes)))))
-
-  -- it ends elsewhere, or its start fails
-  pub one_out : ((w : ℕ) → starts_here w ≡ false) → waits ws ≡ (λ w. waits ws w || starts_here w)
-  one_out none = fun_ext (λ w. sym (ap (λ (b : Bool). waits ws w || b) (none w) ∙ or-false (waits ws w)))
-
-  pub ends_elsewhere : (edge % max_nodes ≡ v → ⊥) → (w : ℕ) → starts_here w ≡ false
-  ends_elsewhere ne w = rw (ne_eqb (edge % max_nodes) v ne) refl
 
   pub start_fails : P (edge / max_nodes) ≡ false → (w : ℕ) → starts_here w ≡ false
   start_fails fails w =

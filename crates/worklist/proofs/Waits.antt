@@ -14,7 +14,6 @@ use Rattle.simulation.specs.Search.{first}
 use Rattle.simulation.proofs.Sets.{clash, split, same}
 use Rattle.simulation.proofs.Search.{lt-or-le, first-le, first-before, first-at}
 use Rattle.bits.specs.Word.{members, set_bits}
-use Rattle.bits.proofs.Words.{zero-members}
 use Rattle.bits.proofs.Counts.{Lowest}
 use Rattle.worklist.specs.Waiting.{waits, waiting_words}
 use Rattle.session.specs.Limits.{max_nodes}
@@ -77,16 +76,6 @@ abbrev pub Idle : List ℕ → ℕ → Type 0
 Idle ws v = (k : ℕ) → k < v → waits ws k ≡ false
 
 module _ (ws : List ℕ) (i : ℕ) (idle : Idle ws (i * set_bits)) where
-  -- a word that is zero
-  pub idle_more : get_or ws i 0 ≡ 0 → Idle ws ((i + 1) * set_bits)
-  idle_more e k l =
-      ⊎_elim
-      (λ (a : k < i * set_bits). idle k a)
-      (λ (a : i * set_bits ≤ k).
-      let at : k / set_bits ≡ i = omega arith in
-      rw (at, e) (zero-members (k % set_bits)))
-      (lt-or-le k (i * set_bits))
-
   -- the word i has a lowest member
   pub waits-lowest : (r : ℕ) → i < waiting_words → Lowest set_bits (get_or ws i 0) r → first (waits ws) 0 max_nodes ≡ i * set_bits + r
   waits-lowest r h low =
