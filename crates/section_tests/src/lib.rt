@@ -12,7 +12,7 @@ ghost use Rattle.session.specs.Limits.{max_nodes, word_bits};
 ghost use Rattle.session.specs.Trigger.{matches, accepts};
 
 use bits::HALF_BITS;
-use pair_tables::turned_states;
+use pair_tables::{Patterns, turned_states};
 use sections::narrow;
 
 // Whether each word is below the limit.
@@ -114,25 +114,22 @@ pub fn strays(samples: &[u16], marks: &[u16], turned: bool, mask: u16, value: u1
     }
 }
 
-// Whether each mark is at a node that its state admits, these states being turned round. A state that has no mark is passed over. Masks and values, and samples
-// and marks, are lists beside one another since the layout, which C reads, has a section for each.
+// Whether each mark is at a node that its state admits, these states being turned round. A state that has no mark is passed over.
 pub fn all_sparse(
-    masks: &[u32],
-    values: &[u32],
+    patterns: &Patterns,
     turned: u32,
     samples: &[u16],
     marks: &[u16],
     used: u32,
 ) -> bool
-    requires samples_len { (length samples.now ≡ length marks.now) × (length values.now ≡ length masks.now) × (length masks.now ≤ half_bits) }
-    requires masks_value { below (2 ^ word_bits) masks.now ≡ true }
+    requires samples_len { (length samples.now ≡ length marks.now) × (length patterns.now.masks.now ≤ half_bits) }
     requires by_index { (u : ℕ) → u < half_bits → members used u ≡ any_below (length marks.now) (λ v. members (get_or marks.now v 0) u) }
-    ensures { result ≡ all_below (length masks.now) (λ u. sparse samples.now marks.now (matches word_bits (members turned u) (get_or masks.now u 0) (get_or values.now u 0)) u) }
+    ensures { result ≡ all_below (length patterns.now.masks.now) (λ u. sparse samples.now marks.now (matches word_bits (members turned u) (get_or patterns.now.masks.now u 0) (get_or patterns.now.values.now u 0)) u) }
 {
     let mut all = true;
-    for (u, mask) in masks.iter().enumerate() {
+    for (u, mask) in patterns.masks.iter().enumerate() {
         if bits::has(used, u as u32) {
-            let wanted = values[u] & *mask;
+            let wanted = patterns.values[u] & *mask;
             let over = bits::has(turned, u as u32);
             let stray = strays(samples, marks, over, *mask as u16, wanted as u16);
             all &= !bits::has(u32::from(stray), u as u32);
@@ -141,22 +138,20 @@ pub fn all_sparse(
     all
 }
 
-// The same of the states from `first` on, half as many as a word has bits at most, whose masks and values these are: their marks are half of each
+// The same of the states from `first` on, half as many as a word has bits at most, whose patterns these are: their marks are half of each
 // word. Halves are compared, since a vector holds twice as many.
 pub fn half_admitted(
-    masks: &[u32],
-    values: &[u32],
+    patterns: &Patterns,
     turned: u32,
     samples: &[u16],
     marks: &[u32],
     used: u32,
     first: u32,
 ) -> bool
-    requires samples_len { (length samples.now ≡ length marks.now) × (length values.now ≡ length masks.now) × (length masks.now ≤ half_bits) }
-    requires masks_value { below (2 ^ word_bits) masks.now ≡ true }
+    requires samples_len { (length samples.now ≡ length marks.now) × (length patterns.now.masks.now ≤ half_bits) }
     requires marks_len_bound { (length marks.now ≤ max_nodes) × (first < set_bits) }
     requires used_value { members used ≡ (λ u. any_below (length marks.now) (λ v. members (get_or marks.now v 0) u)) }
-    ensures { result ≡ all_below (length masks.now) (λ u. sparse samples.now marks.now (matches word_bits (members turned (first + u)) (get_or masks.now u 0) (get_or values.now u 0)) (first + u)) }
+    ensures { result ≡ all_below (length patterns.now.masks.now) (λ u. sparse samples.now marks.now (matches word_bits (members turned (first + u)) (get_or patterns.now.masks.now u 0) (get_or patterns.now.values.now u 0)) (first + u)) }
 {
     let some = used >> first;
     if some == 0 {
@@ -165,62 +160,42 @@ pub fn half_admitted(
     let nodes = marks.len();
     let mut signs = [0u16; session::MAX_NODES];
     narrow(&mut signs[..nodes], marks, first);
-    all_sparse(
-        masks,
-        values,
-        turned >> first,
-        samples,
-        &signs[..nodes],
-        some,
-    )
+    all_sparse(patterns, turned >> first, samples, &signs[..nodes], some)
 }
 
 // The same of all states. Those that a half word has no bit for are tested by a second pass.
 pub fn both_admitted(
-    masks: &[u32],
-    values: &[u32],
+    patterns: &Patterns,
     turned: u32,
     samples: &[u16],
     marks: &[u32],
     used: u32,
 ) -> bool
-    requires samples_len { (length samples.now ≡ length marks.now) × (length values.now ≡ length masks.now) × (length masks.now ≤ set_bits) }
-    requires masks_value { below (2 ^ word_bits) masks.now ≡ true }
+    requires samples_len { length samples.now ≡ length marks.now }
     requires marks_len_bound { length marks.now ≤ max_nodes }
     requires used_value { members used ≡ (λ u. any_below (length marks.now) (λ v. members (get_or marks.now v 0) u)) }
-    ensures { result ≡ all_below (length masks.now) (λ u. sparse samples.now marks.now (matches word_bits (members turned u) (get_or masks.now u 0) (get_or values.now u 0)) u) }
+    ensures { result ≡ all_below (length patterns.now.masks.now) (λ u. sparse samples.now marks.now (matches word_bits (members turned u) (get_or patterns.now.masks.now u 0) (get_or patterns.now.values.now u 0)) u) }
 {
-    if masks.len() <= HALF_BITS {
-        return half_admitted(masks, values, turned, samples, marks, used, 0);
+    if patterns.masks.len() <= HALF_BITS {
+        return half_admitted(patterns, turned, samples, marks, used, 0);
     }
-    let (low, high) = masks.split_at(HALF_BITS);
-    let (low_values, high_values) = values.split_at(HALF_BITS);
-    half_admitted(low, low_values, turned, samples, marks, used, 0)
-        && half_admitted(
-            high,
-            high_values,
-            turned,
-            samples,
-            marks,
-            used,
-            HALF_BITS as u32,
-        )
+    let (low, high) = patterns.split_at(HALF_BITS);
+    half_admitted(&low, turned, samples, marks, used, 0)
+        && half_admitted(&high, turned, samples, marks, used, HALF_BITS as u32)
 }
 
 // The same, given which states are inverted.
 pub fn all_admitted(
-    masks: &[u32],
-    values: &[u32],
+    patterns: &Patterns,
     inverted: u32,
     samples: &[u32],
     marks: &[u32],
     used: u32,
 ) -> bool
-    requires samples_len { (length samples.now ≡ length marks.now) × (length values.now ≡ length masks.now) × (length masks.now ≤ set_bits) }
-    requires masks_value { below (2 ^ word_bits) masks.now ≡ true }
+    requires samples_len { length samples.now ≡ length marks.now }
     requires samples_value { (below (2 ^ word_bits) samples.now ≡ true) × (length marks.now ≤ max_nodes) }
     requires used_value { members used ≡ (λ u. any_below (length marks.now) (λ v. members (get_or marks.now v 0) u)) }
-    ensures { result ≡ all_below (length masks.now) (λ u. sparse samples.now marks.now (accepts word_bits (members inverted u) (get_or masks.now u 0) (get_or values.now u 0)) u) }
+    ensures { result ≡ all_below (length patterns.now.masks.now) (λ u. sparse samples.now marks.now (accepts word_bits (members inverted u) (get_or patterns.now.masks.now u 0) (get_or patterns.now.values.now u 0)) u) }
 {
     if used == 0 {
         return true;
@@ -229,9 +204,8 @@ pub fn all_admitted(
     let mut words = [0u16; session::MAX_NODES];
     narrow(&mut words[..nodes], samples, 0);
     both_admitted(
-        masks,
-        values,
-        turned_states(masks, inverted),
+        patterns,
+        turned_states(patterns.masks, inverted),
         &words[..nodes],
         marks,
         used,

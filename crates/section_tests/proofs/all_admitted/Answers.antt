@@ -35,14 +35,14 @@ samples-read : (c : After-narrow)
     → let n = length c.args.marks.now in
     take n (c.narrow.new.place ++ drop n zeros) ≡ c.args.samples.now
 samples-read c =
-    front_read zeros c.narrow.new.place c.args.samples.now (length c.args.marks.now) (held c) c.requires.samples_len.0
+    front_read zeros c.narrow.new.place c.args.samples.now (length c.args.marks.now) (held c) c.requires.samples_len
 
 pub returns-then-used-eq0 : goal.returns-then-used-eq0
 returns-then-used-eq0 c =
     let a = c.args in
-    let test : ℕ → Set = λ u. accepts word_bits (members a.inverted u) (get_or a.masks.now u 0) (get_or a.values.now u 0) in
+    let test : ℕ → Set = λ u. accepts word_bits (members a.inverted u) (get_or a.patterns.now.masks.now u 0) (get_or a.patterns.now.values.now u 0) in
     sym
-    (all_make (length a.masks.now) (λ u. sparse a.samples.now a.marks.now (test u) u)
+    (all_make (length a.patterns.now.masks.now) (λ u. sparse a.samples.now a.marks.now (test u) u)
     (λ u l.
     sparse-none a.samples.now a.marks.now (test u) u
     (ap (λ (X : Set). X u) (sym c.requires.used_value) ∙ ap (λ (w : ℕ). members w u) c.if-used-eq0.true ∙ zero-members u)))
@@ -53,21 +53,20 @@ slice_bounds-narrow-end c =
 
 pub narrow-requires : goal.narrow-requires
 narrow-requires c =
-    (c.requires.samples_len.0 ∙ room (goal.at.narrow-requires c).Start, omega arith)
+    (c.requires.samples_len ∙ room (goal.at.narrow-requires c).Start, omega arith)
 
 pub slice_bounds-words-end-2 : goal.slice_bounds-words-end-2
 slice_bounds-words-end-2 c =
-    front-inside c.narrow.new.place c.args.samples.now (drop (nodes (goal.at.slice_bounds-words-end-2 c).Start) zeros) (nodes (goal.at.slice_bounds-words-end-2 c).Start) (held (goal.at.slice_bounds-words-end-2 c).After-narrow) c.requires.samples_len.0
+    front-inside c.narrow.new.place c.args.samples.now (drop (nodes (goal.at.slice_bounds-words-end-2 c).Start) zeros) (nodes (goal.at.slice_bounds-words-end-2 c).Start) (held (goal.at.slice_bounds-words-end-2 c).After-narrow) c.requires.samples_len
 
 pub slice_bounds-both_admitted-end : goal.slice_bounds-both_admitted-end
 slice_bounds-both_admitted-end c =
-    sym (ap length (samples-read (goal.at.slice_bounds-both_admitted-end c).After-narrow) ∙ c.requires.samples_len.0)
+    sym (ap length (samples-read (goal.at.slice_bounds-both_admitted-end c).After-narrow) ∙ c.requires.samples_len)
 
 pub both_admitted-requires : goal.both_admitted-requires
 both_admitted-requires c =
     record {
-      samples_len = (ap length (samples-read (goal.at.both_admitted-requires c).After-narrow) ∙ c.requires.samples_len.0, c.requires.samples_len.1, c.requires.samples_len.2);
-      masks_value = c.requires.masks_value;
+      samples_len = ap length (samples-read (goal.at.both_admitted-requires c).After-narrow) ∙ c.requires.samples_len;
       marks_len_bound = c.requires.samples_value.1;
       used_value = c.requires.used_value;
     }
@@ -78,6 +77,6 @@ returns c =
     c.both_admitted.ensures
     ∙ ap
     (λ (ss : List ℕ).
-    all_below (length a.masks.now) (λ u. sparse ss a.marks.now (matches word_bits (members c.turned_states.result u) (get_or a.masks.now u 0) (get_or a.values.now u 0)) u))
+    all_below (length a.patterns.now.masks.now) (λ u. sparse ss a.marks.now (matches word_bits (members c.turned_states.result u) (get_or a.patterns.now.masks.now u 0) (get_or a.patterns.now.values.now u 0)) u))
     (samples-read (goal.at.returns c).After-narrow)
-    ∙ sparse-turned a.samples.now a.marks.now a.masks.now a.values.now a.inverted c.turned_states.result c.turned_states.ensures
+    ∙ sparse-turned a.samples.now a.marks.now a.patterns.now.masks.now a.patterns.now.values.now a.inverted c.turned_states.result c.turned_states.ensures

@@ -42,9 +42,9 @@ returns-then-some-eq0 c =
     let a = c.args in
     let first = a.first in
     sym
-    (all_make (length a.masks.now) (admitted a.samples.now a.marks.now a.turned a.masks.now a.values.now first)
+    (all_make (length a.patterns.now.masks.now) (admitted a.samples.now a.marks.now a.turned a.patterns.now.masks.now a.patterns.now.values.now first)
     (λ u l.
-    sparse-none a.samples.now a.marks.now (matches word_bits (members a.turned (first + u)) (get_or a.masks.now u 0) (get_or a.values.now u 0))
+    sparse-none a.samples.now a.marks.now (matches word_bits (members a.turned (first + u)) (get_or a.patterns.now.masks.now u 0) (get_or a.patterns.now.values.now u 0))
     (first + u)
     (ap (λ (X : Set). X (first + u)) (sym c.requires.used_value)
     ∙ sym (shifted_members first a.used u)
@@ -73,8 +73,7 @@ slice_bounds-all_sparse-end c =
 pub all_sparse-requires : goal.all_sparse-requires
 all_sparse-requires c =
     let a = c.args in record {
-      samples_len = (c.requires.samples_len.0 ∙ sym (ap length (signs_read (goal.at.all_sparse-requires c).After-narrow) ∙ halves_long a.marks.now a.first), c.requires.samples_len.1, c.requires.samples_len.2);
-      masks_value = c.requires.masks_value;
+      samples_len = (c.requires.samples_len.0 ∙ sym (ap length (signs_read (goal.at.all_sparse-requires c).After-narrow) ∙ halves_long a.marks.now a.first), c.requires.samples_len.1);
       by_index = λ u l.
           subst (λ (ms : List ℕ). members (a.used / 2 ^ a.first) u ≡ gathers (length ms) (λ v. members (get_or ms v 0)) u) (sym (signs_read (goal.at.all_sparse-requires c).After-narrow))
           (used_half a.marks.now a.first a.used c.requires.used_value u l);
@@ -84,12 +83,12 @@ pub returns : goal.returns
 returns c =
     let a = c.args in
     let first = a.first in
-    let test : ℕ → ℕ → Set = λ turned u. matches word_bits (members turned u) (get_or a.masks.now u 0) (get_or a.values.now u 0) in
+    let test : ℕ → ℕ → Set = λ turned u. matches word_bits (members turned u) (get_or a.patterns.now.masks.now u 0) (get_or a.patterns.now.values.now u 0) in
     c.all_sparse.ensures
-    ∙ ap (λ (ms : List ℕ). all_below (length a.masks.now) (λ u. sparse a.samples.now ms (test (a.turned / 2 ^ first) u) u)) (signs_read (goal.at.returns c).After-narrow)
-    ∙ all_same (length a.masks.now) (λ u. sparse a.samples.now (halves first a.marks.now) (test (a.turned / 2 ^ first) u) u)
-    (admitted a.samples.now a.marks.now a.turned a.masks.now a.values.now first)
+    ∙ ap (λ (ms : List ℕ). all_below (length a.patterns.now.masks.now) (λ u. sparse a.samples.now ms (test (a.turned / 2 ^ first) u) u)) (signs_read (goal.at.returns c).After-narrow)
+    ∙ all_same (length a.patterns.now.masks.now) (λ u. sparse a.samples.now (halves first a.marks.now) (test (a.turned / 2 ^ first) u) u)
+    (admitted a.samples.now a.marks.now a.turned a.patterns.now.masks.now a.patterns.now.values.now first)
     (λ u l.
-    sparse-half a.marks.now first a.samples.now (test (a.turned / 2 ^ first) u) u (omega (arith, c.requires.samples_len.2))
-    ∙ ap (λ (b : Bool). sparse a.samples.now a.marks.now (matches word_bits b (get_or a.masks.now u 0) (get_or a.values.now u 0)) (first + u))
+    sparse-half a.marks.now first a.samples.now (test (a.turned / 2 ^ first) u) u (omega (arith, c.requires.samples_len.1))
+    ∙ ap (λ (b : Bool). sparse a.samples.now a.marks.now (matches word_bits b (get_or a.patterns.now.masks.now u 0) (get_or a.patterns.now.values.now u 0)) (first + u))
     (shifted_members first a.turned u))
