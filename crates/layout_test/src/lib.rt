@@ -6,6 +6,7 @@ ghost use Rattle.session.specs.Limits.{fixed_size, masks_at, samples_at, max_edg
 ghost use Rattle.session.specs.Layout.{part, below, in_layout};
 ghost use Rattle.session.specs.Tests.{trigger_test, graph_test, marks_test};
 
+use pair_tables::Patterns;
 use section_tests::{all_admitted, all_ascend, all_named, all_zero, section_fits, unions_fit};
 
 // Whether the marks fit. The union of the marks serves both tests.
@@ -21,10 +22,13 @@ pub fn marks_fit(session: &[u32], states: usize, nodes: usize) -> bool
     let marks_end = session::MARKS_AT + nodes;
     let used = bits::gathered(&session[session::MARKS_AT..marks_end]);
     let unused = bits::gathered(&session[marks_end..session::FIXED_SIZE]);
+    let patterns = Patterns {
+        masks: &session[session::MASKS_AT..masks_end],
+        values: &session[session::VALUES_AT..values_end],
+    };
     unions_fit(used, unused, states as u32)
         && all_admitted(
-            &session[session::MASKS_AT..masks_end],
-            &session[session::VALUES_AT..values_end],
+            &patterns,
             session[session::INVERTED_AT],
             &session[session::SAMPLES_AT..samples_end],
             &session[session::MARKS_AT..marks_end],
