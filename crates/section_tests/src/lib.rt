@@ -125,7 +125,8 @@ pub fn strays(samples: &[u16], marks: &[u16], turned: bool, mask: u16, value: u1
     }
 }
 
-// Whether each mark is at a node that its state admits, these states being turned round. A state that has no mark is passed over.
+// Whether each mark is at a node that its state admits, these states being turned round. A state that has no mark is passed over. The marks are
+// halves of words, and `used` speaks of them in its lower half alone, so that these are no `Marked`.
 pub fn all_sparse(
     patterns: &Patterns,
     turned: u32,
@@ -149,8 +150,8 @@ pub fn all_sparse(
     all
 }
 
-// The same of the states from `first` on, half as many as a word has bits at most, whose patterns these are: their marks are half of each
-// word. Halves are compared, since a vector holds twice as many.
+// The same of the states from `first` on, half as many as a word has bits at most, whose patterns these are: their marks are half of each word. Halves are
+// compared, since a vector holds twice as many.
 pub fn half_admitted(patterns: &Patterns, turned: u32, marked: &Marked<u16>, first: u32) -> bool
     requires { (length patterns.now.masks.now ≤ half_bits) × (first < set_bits) }
     ensures { result ≡ all_below (length patterns.now.masks.now) (λ u. sparse marked.now.samples.now marked.now.marks.now (matches word_bits (members turned (first + u)) (get_or patterns.now.masks.now u 0) (get_or patterns.now.values.now u 0)) (first + u)) }
