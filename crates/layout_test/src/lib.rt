@@ -6,7 +6,10 @@ ghost use Rattle.session.specs.Limits.{fixed_size, masks_at, samples_at, max_edg
 ghost use Rattle.session.specs.Layout.{part, below, in_layout};
 ghost use Rattle.session.specs.Tests.{trigger_test, graph_test, marks_test};
 
-use section_tests::{all_admitted, all_ascend, all_named, all_zero, section_fits, unions_fit};
+use pair_tables::Patterns;
+use section_tests::{
+    Marked, all_admitted, all_ascend, all_named, all_zero, section_fits, unions_fit,
+};
 
 // Whether the marks fit. The union of the marks serves both tests.
 pub fn marks_fit(session: &[u32], states: usize, nodes: usize) -> bool
@@ -19,17 +22,21 @@ pub fn marks_fit(session: &[u32], states: usize, nodes: usize) -> bool
     let values_end = session::VALUES_AT + states;
     let samples_end = session::SAMPLES_AT + nodes;
     let marks_end = session::MARKS_AT + nodes;
-    let used = bits::gathered(&session[session::MARKS_AT..marks_end]);
+    let marks = &session[session::MARKS_AT..marks_end];
+    let used = bits::gathered(marks);
     let unused = bits::gathered(&session[marks_end..session::FIXED_SIZE]);
+    let patterns = Patterns {
+        masks: &session[session::MASKS_AT..masks_end],
+        values: &session[session::VALUES_AT..values_end],
+    };
+    let samples = &session[session::SAMPLES_AT..samples_end];
+    let marked = Marked {
+        samples,
+        marks,
+        used,
+    };
     unions_fit(used, unused, states as u32)
-        && all_admitted(
-            &session[session::MASKS_AT..masks_end],
-            &session[session::VALUES_AT..values_end],
-            session[session::INVERTED_AT],
-            &session[session::SAMPLES_AT..samples_end],
-            &session[session::MARKS_AT..marks_end],
-            used,
-        )
+        && all_admitted(&patterns, session[session::INVERTED_AT], &marked)
 }
 
 // Whether the counts keep their limits.

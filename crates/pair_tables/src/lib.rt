@@ -1,7 +1,7 @@
 // Tables of pairs, a word of states for each node: those that are admitted, tables put together and taken away, pairs counted.
 #![tactic(auto)]
 
-ghost use Rattle.std.specs.Prelude.{◌≡◌, true, not, ◌&&◌, ◌||◌, ℕ, ◌^◌, ◌<◌, ◌≤◌, ◌*◌, ◌/◌, ◌%◌, length, get_or, ltb};
+ghost use Rattle.std.specs.Prelude.{◌≡◌, true, not, ◌&&◌, ◌||◌, ℕ, ◌^◌, ◌<◌, ◌≤◌, ◌*◌, ◌/◌, ◌%◌, length, get_or, take, drop, ltb};
 ghost use Rattle.session.specs.Limits.{max_nodes, max_states, word_bits};
 ghost use Rattle.session.specs.Layout.{below};
 ghost use Rattle.pair_tables.specs.Tables.{Admits, Admitted};
@@ -9,6 +9,16 @@ ghost use Rattle.simulation.specs.Sets.{count};
 ghost use Rattle.bits.specs.Word.{members, set_bits};
 ghost use Rattle.session.specs.Trigger.{matches};
 ghost use Rattle.pair_tables.specs.Tables.{marked, turned_states};
+
+// The masks and values of states, one of each for a state. They stand in lists of their own, as the layout, which C reads, has them.
+#[derive(Clone, Copy)]
+pub struct Patterns<'a> {
+    pub masks: &'a [u32],
+    pub values: &'a [u32],
+    ghost paired: { length values.now ≡ length masks.now },
+    ghost few: { length masks.now ≤ max_states },
+    ghost masks_fit: { below (2 ^ word_bits) masks.now ≡ true },
+}
 
 // Puts a state into the words of the nodes where a mask and a value agree with the sample, or, turned round, where they do not; how many they are. Each word is
 // stored, so there is no branch. Whether it is turned is no value but a part of the loop: a plain state's spends nothing on it, and a turned one's no more
@@ -65,46 +75,56 @@ pub fn turned_states(masks: &[u32], inverted: u32) -> u32
     inverted & wanting
 }
 
-// Fills a table that is zero with the admitted pairs, these states being turned round; how many they are.
-pub fn admitted(
-    masks: &[u32],
-    values: &[u32],
-    turned: u32,
-    samples: &[u32],
-    table: &mut [u32],
-) -> u32
-    requires values_len { (length values.now ≡ length masks.now) × (length masks.now ≤ max_states) × (length samples.now ≤ max_nodes) × (length table.old ≡ max_nodes) }
-    requires masks_value { (below (2 ^ word_bits) masks.now ≡ true) × ((v : ℕ) → get_or table.old v 0 ≡ 0) }
-    ensures { Admitted masks.now values.now turned samples.now result table.new }
-{
-    let mut count = 0;
-    for (u, mask) in masks.iter().enumerate() {
-        count += admit(
-            samples,
-            bits::has(turned, u as u32),
-            *mask,
-            values[u],
-            u as u32,
-            table,
-        );
+impl<'a> Patterns<'a> {
+    // The states before the k-th, and the others.
+    pub fn split_at(&self, k: usize) -> (Patterns<'a>, Patterns<'a>)
+        requires { k ≤ length self.now.masks.now }
+        ensures front { (result.0.masks.now ≡ take k self.now.masks.now) × (result.0.values.now ≡ take k self.now.values.now) }
+        ensures back { (result.1.masks.now ≡ drop k self.now.masks.now) × (result.1.values.now ≡ drop k self.now.values.now) }
+    {
+        let (masks, later_masks) = self.masks.split_at(k);
+        let (values, later_values) = self.values.split_at(k);
+        let front = Patterns { masks, values };
+        let back = Patterns {
+            masks: later_masks,
+            values: later_values,
+        };
+        (front, back)
     }
-    count
-}
 
-// The states that admit a sample: those that agree with it, turned round where they are to be.
-pub fn admitted_at(masks: &[u32], values: &[u32], turned: u32, sample: u32) -> u32
-    requires values_len { (length values.now ≡ length masks.now) × (length masks.now ≤ max_states) × (below (2 ^ word_bits) masks.now ≡ true) }
-    requires by_index { (u : ℕ) → members turned u ≡ true → u < length masks.now }
-    ensures { members result ≡ (λ u. ltb u (length masks.now) && matches word_bits (members turned u) (get_or masks.now u 0) (get_or values.now u 0) sample) }
-{
-    let mut all = 0;
-    for (u, mask) in masks.iter().enumerate() {
-        let agrees = (values[u] ^ sample) & *mask == 0;
-        if agrees {
-            all = bits::added(all, u as u32);
+    // Fills a table that is zero with the admitted pairs, these states being turned round; how many they are.
+    pub fn admitted(&self, turned: u32, samples: &[u32], table: &mut [u32]) -> u32
+        requires { (length samples.now ≤ max_nodes) × (length table.old ≡ max_nodes) × ((v : ℕ) → get_or table.old v 0 ≡ 0) }
+        ensures { Admitted self.now.masks.now self.now.values.now turned samples.now result table.new }
+    {
+        let mut count = 0;
+        for (u, mask) in self.masks.iter().enumerate() {
+            count += admit(
+                samples,
+                bits::has(turned, u as u32),
+                *mask,
+                self.values[u],
+                u as u32,
+                table,
+            );
         }
+        count
     }
-    bits::differing(all, turned)
+
+    // The states that admit a sample: those that agree with it, turned round where they are to be.
+    pub fn admitted_at(&self, turned: u32, sample: u32) -> u32
+        requires { (u : ℕ) → members turned u ≡ true → u < length self.now.masks.now }
+        ensures { members result ≡ (λ u. ltb u (length self.now.masks.now) && matches word_bits (members turned u) (get_or self.now.masks.now u 0) (get_or self.now.values.now u 0) sample) }
+    {
+        let mut all = 0;
+        for (u, mask) in self.masks.iter().enumerate() {
+            let agrees = (self.values[u] ^ sample) & *mask == 0;
+            if agrees {
+                all = bits::added(all, u as u32);
+            }
+        }
+        bits::differing(all, turned)
+    }
 }
 
 // Changes each word of a table by the other's word of the same node.

@@ -12,8 +12,19 @@ ghost use Rattle.session.specs.Limits.{max_nodes, word_bits};
 ghost use Rattle.session.specs.Trigger.{matches, accepts};
 
 use bits::HALF_BITS;
-use pair_tables::turned_states;
+use pair_tables::{Patterns, turned_states};
 use sections::narrow;
+
+// The samples and the marks of nodes, a word of each for a node, and the union of the marks: which states have one.
+#[derive(Drop)]
+pub struct Marked<'a, S> {
+    pub samples: &'a [S],
+    pub marks: &'a [u32],
+    pub used: u32,
+    ghost paired: { length samples.now ≡ length marks.now },
+    ghost few: { length marks.now ≤ max_nodes },
+    ghost gathered: { members used ≡ (λ u. any_below (length marks.now) (λ v. members (get_or marks.now v 0) u)) },
+}
 
 // Whether each word is below the limit.
 pub fn all_below(words: &[u32], limit: u32) -> bool
@@ -114,25 +125,23 @@ pub fn strays(samples: &[u16], marks: &[u16], turned: bool, mask: u16, value: u1
     }
 }
 
-// Whether each mark is at a node that its state admits, these states being turned round. A state that has no mark is passed over. Masks and values, and samples
-// and marks, are lists beside one another since the layout, which C reads, has a section for each.
+// Whether each mark is at a node that its state admits, these states being turned round. A state that has no mark is passed over. The marks are
+// halves of words, and `used` speaks of them in its lower half alone, so that these are no `Marked`.
 pub fn all_sparse(
-    masks: &[u32],
-    values: &[u32],
+    patterns: &Patterns,
     turned: u32,
     samples: &[u16],
     marks: &[u16],
     used: u32,
 ) -> bool
-    requires samples_len { (length samples.now ≡ length marks.now) × (length values.now ≡ length masks.now) × (length masks.now ≤ half_bits) }
-    requires masks_value { below (2 ^ word_bits) masks.now ≡ true }
+    requires samples_len { (length samples.now ≡ length marks.now) × (length patterns.now.masks.now ≤ half_bits) }
     requires by_index { (u : ℕ) → u < half_bits → members used u ≡ any_below (length marks.now) (λ v. members (get_or marks.now v 0) u) }
-    ensures { result ≡ all_below (length masks.now) (λ u. sparse samples.now marks.now (matches word_bits (members turned u) (get_or masks.now u 0) (get_or values.now u 0)) u) }
+    ensures { result ≡ all_below (length patterns.now.masks.now) (λ u. sparse samples.now marks.now (matches word_bits (members turned u) (get_or patterns.now.masks.now u 0) (get_or patterns.now.values.now u 0)) u) }
 {
     let mut all = true;
-    for (u, mask) in masks.iter().enumerate() {
+    for (u, mask) in patterns.masks.iter().enumerate() {
         if bits::has(used, u as u32) {
-            let wanted = values[u] & *mask;
+            let wanted = patterns.values[u] & *mask;
             let over = bits::has(turned, u as u32);
             let stray = strays(samples, marks, over, *mask as u16, wanted as u16);
             all &= !bits::has(u32::from(stray), u as u32);
@@ -141,99 +150,54 @@ pub fn all_sparse(
     all
 }
 
-// The same of the states from `first` on, half as many as a word has bits at most, whose masks and values these are: their marks are half of each
-// word. Halves are compared, since a vector holds twice as many.
-pub fn half_admitted(
-    masks: &[u32],
-    values: &[u32],
-    turned: u32,
-    samples: &[u16],
-    marks: &[u32],
-    used: u32,
-    first: u32,
-) -> bool
-    requires samples_len { (length samples.now ≡ length marks.now) × (length values.now ≡ length masks.now) × (length masks.now ≤ half_bits) }
-    requires masks_value { below (2 ^ word_bits) masks.now ≡ true }
-    requires marks_len_bound { (length marks.now ≤ max_nodes) × (first < set_bits) }
-    requires used_value { members used ≡ (λ u. any_below (length marks.now) (λ v. members (get_or marks.now v 0) u)) }
-    ensures { result ≡ all_below (length masks.now) (λ u. sparse samples.now marks.now (matches word_bits (members turned (first + u)) (get_or masks.now u 0) (get_or values.now u 0)) (first + u)) }
+// The same of the states from `first` on, half as many as a word has bits at most, whose patterns these are: their marks are half of each word. Halves are
+// compared, since a vector holds twice as many.
+pub fn half_admitted(patterns: &Patterns, turned: u32, marked: &Marked<u16>, first: u32) -> bool
+    requires { (length patterns.now.masks.now ≤ half_bits) × (first < set_bits) }
+    ensures { result ≡ all_below (length patterns.now.masks.now) (λ u. sparse marked.now.samples.now marked.now.marks.now (matches word_bits (members turned (first + u)) (get_or patterns.now.masks.now u 0) (get_or patterns.now.values.now u 0)) (first + u)) }
 {
-    let some = used >> first;
+    let some = marked.used >> first;
     if some == 0 {
         return true;
     }
-    let nodes = marks.len();
+    let nodes = marked.marks.len();
     let mut signs = [0u16; session::MAX_NODES];
-    narrow(&mut signs[..nodes], marks, first);
+    narrow(&mut signs[..nodes], marked.marks, first);
     all_sparse(
-        masks,
-        values,
+        patterns,
         turned >> first,
-        samples,
+        marked.samples,
         &signs[..nodes],
         some,
     )
 }
 
 // The same of all states. Those that a half word has no bit for are tested by a second pass.
-pub fn both_admitted(
-    masks: &[u32],
-    values: &[u32],
-    turned: u32,
-    samples: &[u16],
-    marks: &[u32],
-    used: u32,
-) -> bool
-    requires samples_len { (length samples.now ≡ length marks.now) × (length values.now ≡ length masks.now) × (length masks.now ≤ set_bits) }
-    requires masks_value { below (2 ^ word_bits) masks.now ≡ true }
-    requires marks_len_bound { length marks.now ≤ max_nodes }
-    requires used_value { members used ≡ (λ u. any_below (length marks.now) (λ v. members (get_or marks.now v 0) u)) }
-    ensures { result ≡ all_below (length masks.now) (λ u. sparse samples.now marks.now (matches word_bits (members turned u) (get_or masks.now u 0) (get_or values.now u 0)) u) }
+pub fn both_admitted(patterns: &Patterns, turned: u32, marked: &Marked<u16>) -> bool
+    ensures { result ≡ all_below (length patterns.now.masks.now) (λ u. sparse marked.now.samples.now marked.now.marks.now (matches word_bits (members turned u) (get_or patterns.now.masks.now u 0) (get_or patterns.now.values.now u 0)) u) }
 {
-    if masks.len() <= HALF_BITS {
-        return half_admitted(masks, values, turned, samples, marks, used, 0);
+    if patterns.masks.len() <= HALF_BITS {
+        return half_admitted(patterns, turned, marked, 0);
     }
-    let (low, high) = masks.split_at(HALF_BITS);
-    let (low_values, high_values) = values.split_at(HALF_BITS);
-    half_admitted(low, low_values, turned, samples, marks, used, 0)
-        && half_admitted(
-            high,
-            high_values,
-            turned,
-            samples,
-            marks,
-            used,
-            HALF_BITS as u32,
-        )
+    let (low, high) = patterns.split_at(HALF_BITS);
+    half_admitted(&low, turned, marked, 0) && half_admitted(&high, turned, marked, HALF_BITS as u32)
 }
 
 // The same, given which states are inverted.
-pub fn all_admitted(
-    masks: &[u32],
-    values: &[u32],
-    inverted: u32,
-    samples: &[u32],
-    marks: &[u32],
-    used: u32,
-) -> bool
-    requires samples_len { (length samples.now ≡ length marks.now) × (length values.now ≡ length masks.now) × (length masks.now ≤ set_bits) }
-    requires masks_value { below (2 ^ word_bits) masks.now ≡ true }
-    requires samples_value { (below (2 ^ word_bits) samples.now ≡ true) × (length marks.now ≤ max_nodes) }
-    requires used_value { members used ≡ (λ u. any_below (length marks.now) (λ v. members (get_or marks.now v 0) u)) }
-    ensures { result ≡ all_below (length masks.now) (λ u. sparse samples.now marks.now (accepts word_bits (members inverted u) (get_or masks.now u 0) (get_or values.now u 0)) u) }
+pub fn all_admitted(patterns: &Patterns, inverted: u32, marked: &Marked<u32>) -> bool
+    requires { below (2 ^ word_bits) marked.now.samples.now ≡ true }
+    ensures { result ≡ all_below (length patterns.now.masks.now) (λ u. sparse marked.now.samples.now marked.now.marks.now (accepts word_bits (members inverted u) (get_or patterns.now.masks.now u 0) (get_or patterns.now.values.now u 0)) u) }
 {
-    if used == 0 {
+    if marked.used == 0 {
         return true;
     }
-    let nodes = marks.len();
+    let nodes = marked.marks.len();
     let mut words = [0u16; session::MAX_NODES];
-    narrow(&mut words[..nodes], samples, 0);
-    both_admitted(
-        masks,
-        values,
-        turned_states(masks, inverted),
-        &words[..nodes],
-        marks,
-        used,
-    )
+    narrow(&mut words[..nodes], marked.samples, 0);
+    let halves = Marked {
+        samples: &words[..nodes],
+        marks: marked.marks,
+        used: marked.used,
+    };
+    both_admitted(patterns, turned_states(patterns.masks, inverted), &halves)
 }

@@ -11,7 +11,7 @@ ghost use Rattle.session_parts.specs.Inside.{Inside};
 ghost use Rattle.session_parts.specs.Admission.{turned_in, admitted_at, AdmittedPairs};
 
 use edges::has_edge;
-use pair_tables::{admitted, admitted_at, turned_states};
+use pair_tables::{Patterns, turned_states};
 use std::marker::Model;
 
 // The part of a memory that begins at a place and has so many words.
@@ -73,6 +73,18 @@ impl<'a> Held<'a> {
         part_of(self.words, session::VALUES_AT, self.words[0] as usize)
     }
 
+    // The masks and values of its states.
+    fn patterns(&self) -> Patterns<'_>
+        ensures masks { result.masks.now ≡ (trigger_of self.now).masks }
+        ensures values { result.values.now ≡ (trigger_of self.now).values }
+        ensures held { in_layout self.now ≡ true }
+    {
+        Patterns {
+            masks: self.masks(),
+            values: self.values(),
+        }
+    }
+
     pub fn links(&self) -> &[u32]
         ensures is { result.now ≡ (trigger_of self.now).links }
         ensures held { in_layout self.now ≡ true }
@@ -130,7 +142,7 @@ impl<'a> Held<'a> {
         requires { (members turned ≡ turned_in self.now) × (length table.old ≡ max_nodes) × ((v : ℕ) → get_or table.old v 0 ≡ 0) }
         ensures { AdmittedPairs self.now result table.new }
     {
-        admitted(self.masks(), self.values(), turned, self.samples(), table)
+        self.patterns().admitted(turned, self.samples(), table)
     }
 
     // The states that admit a node.
@@ -139,7 +151,7 @@ impl<'a> Held<'a> {
         ensures { members result ≡ admitted_at self.now node }
     {
         let samples = self.samples();
-        admitted_at(self.masks(), self.values(), turned, samples[node as usize])
+        self.patterns().admitted_at(turned, samples[node as usize])
     }
 }
 

@@ -21,20 +21,26 @@ whole c =
     ∙ fits_unions c.args.session.now marks_at max_nodes c.args.nodes (omega arith) (omega arith) c.args.states used.result unused.result
     (search rules) used.ensures unused.ensures
 
-pub all_admitted-requires : goal.all_admitted-requires
-all_admitted-requires c =
+pub invariant_of-patterns : goal.invariant_of-patterns
+invariant_of-patterns c =
     let n = c.args.states in
+    let xs = c.args.session.now in record {
+      paired = simp add-sub_cancel_left (part_length xs values_at n (omega arith) ∙ sym (part_length xs masks_at n (omega arith)));
+      few = simp add-sub_cancel_left (omega (arith, part_length xs masks_at n (omega arith)));
+      masks_fit = simp add-sub_cancel_left c.requires.states_value;
+    }
+
+pub invariant_of-marked : goal.invariant_of-marked
+invariant_of-marked c =
     let m = c.args.nodes in
     let xs = c.args.session.now in record {
-      samples_len = (
-        simp add-sub_cancel_left (part_length xs samples_at m (omega arith) ∙ sym (part_length xs marks_at m (omega arith))),
-        simp add-sub_cancel_left (part_length xs values_at n (omega arith) ∙ sym (part_length xs masks_at n (omega arith))),
-        simp add-sub_cancel_left (omega (arith, part_length xs masks_at n (omega arith))),
-      );
-      masks_value = simp add-sub_cancel_left c.requires.states_value;
-      samples_value = (simp add-sub_cancel_left c.requires.nodes_value, simp add-sub_cancel_left (omega (arith, part_length xs marks_at m (omega arith))));
-      used_value = simp add-sub_cancel_left (simp add-sub_cancel_left at c.gathered-used.ensures);
+      paired = simp add-sub_cancel_left (part_length xs samples_at m (omega arith) ∙ sym (part_length xs marks_at m (omega arith)));
+      few = simp add-sub_cancel_left (omega (arith, part_length xs marks_at m (omega arith)));
+      gathered = simp add-sub_cancel_left (simp add-sub_cancel_left at c.gathered-used.ensures);
     }
+
+pub all_admitted-requires : goal.all_admitted-requires
+all_admitted-requires c = simp add-sub_cancel_left c.requires.nodes_value
 
 pub returns-then-unions_fit : goal.returns-then-unions_fit
 unfolding marks_test

@@ -18,34 +18,34 @@ use Rattle.section_tests.proofs.all_admitted.Goals as goal
 use Rattle.section_tests.proofs.all_admitted.Goals.{After-narrow, Start}
 
 abbrev nodes : Start → ℕ
-nodes c = length c.args.marks.now
+nodes c = length c.args.marked.now.marks.now
 
 abbrev zeros : List ℕ
 zeros = replicate max_nodes 0
 
 -- the array has room for them
 room : (c : Start) → nodes c ≡ length (take (nodes c) zeros)
-room c = sym (length-take-le (nodes c) zeros c.requires.samples_value.1)
+room c = sym (length-take-le (nodes c) zeros c.args.marked.now.few)
 
 -- the array holds the samples, and they are what is read of it
-held : (c : After-narrow) → c.narrow.new.place ≡ c.args.samples.now
-held c = c.narrow.ensures ∙ halves_small c.args.samples.now 0 refl c.requires.samples_value.0
+held : (c : After-narrow) → c.narrow.new.place ≡ c.args.marked.now.samples.now
+held c = c.narrow.ensures ∙ halves_small c.args.marked.now.samples.now 0 refl c.requires
 
 samples-read : (c : After-narrow)
-    → let n = length c.args.marks.now in
-    take n (c.narrow.new.place ++ drop n zeros) ≡ c.args.samples.now
+    → let n = length c.args.marked.now.marks.now in
+    take n (c.narrow.new.place ++ drop n zeros) ≡ c.args.marked.now.samples.now
 samples-read c =
-    front_read zeros c.narrow.new.place c.args.samples.now (length c.args.marks.now) (held c) c.requires.samples_len.0
+    front_read zeros c.narrow.new.place c.args.marked.now.samples.now (length c.args.marked.now.marks.now) (held c) c.args.marked.now.paired
 
-pub returns-then-used-eq0 : goal.returns-then-used-eq0
-returns-then-used-eq0 c =
+pub returns-then-marked-eq0 : goal.returns-then-marked-eq0
+returns-then-marked-eq0 c =
     let a = c.args in
-    let test : ℕ → Set = λ u. accepts word_bits (members a.inverted u) (get_or a.masks.now u 0) (get_or a.values.now u 0) in
+    let test : ℕ → Set = λ u. accepts word_bits (members a.inverted u) (get_or a.patterns.now.masks.now u 0) (get_or a.patterns.now.values.now u 0) in
     sym
-    (all_make (length a.masks.now) (λ u. sparse a.samples.now a.marks.now (test u) u)
+    (all_make (length a.patterns.now.masks.now) (λ u. sparse a.marked.now.samples.now a.marked.now.marks.now (test u) u)
     (λ u l.
-    sparse-none a.samples.now a.marks.now (test u) u
-    (ap (λ (X : Set). X u) (sym c.requires.used_value) ∙ ap (λ (w : ℕ). members w u) c.if-used-eq0.true ∙ zero-members u)))
+    sparse-none a.marked.now.samples.now a.marked.now.marks.now (test u) u
+    (ap (λ (X : Set). X u) (sym c.args.marked.now.gathered) ∙ ap (λ (w : ℕ). members w u) c.if-marked-eq0.true ∙ zero-members u)))
 
 pub slice_bounds-narrow-end : goal.slice_bounds-narrow-end
 slice_bounds-narrow-end c =
@@ -53,23 +53,22 @@ slice_bounds-narrow-end c =
 
 pub narrow-requires : goal.narrow-requires
 narrow-requires c =
-    (c.requires.samples_len.0 ∙ room (goal.at.narrow-requires c).Start, omega arith)
+    (c.args.marked.now.paired ∙ room (goal.at.narrow-requires c).Start, omega arith)
 
 pub slice_bounds-words-end-2 : goal.slice_bounds-words-end-2
 slice_bounds-words-end-2 c =
-    front-inside c.narrow.new.place c.args.samples.now (drop (nodes (goal.at.slice_bounds-words-end-2 c).Start) zeros) (nodes (goal.at.slice_bounds-words-end-2 c).Start) (held (goal.at.slice_bounds-words-end-2 c).After-narrow) c.requires.samples_len.0
+    front-inside c.narrow.new.place c.args.marked.now.samples.now (drop (nodes (goal.at.slice_bounds-words-end-2 c).Start) zeros) (nodes (goal.at.slice_bounds-words-end-2 c).Start) (held (goal.at.slice_bounds-words-end-2 c).After-narrow) c.args.marked.now.paired
 
-pub slice_bounds-both_admitted-end : goal.slice_bounds-both_admitted-end
-slice_bounds-both_admitted-end c =
-    sym (ap length (samples-read (goal.at.slice_bounds-both_admitted-end c).After-narrow) ∙ c.requires.samples_len.0)
+pub slice_bounds-halves-end : goal.slice_bounds-halves-end
+slice_bounds-halves-end c =
+    sym (ap length (samples-read (goal.at.slice_bounds-halves-end c).After-narrow) ∙ c.args.marked.now.paired)
 
-pub both_admitted-requires : goal.both_admitted-requires
-both_admitted-requires c =
+pub invariant_of-halves : goal.invariant_of-halves
+invariant_of-halves c =
     record {
-      samples_len = (ap length (samples-read (goal.at.both_admitted-requires c).After-narrow) ∙ c.requires.samples_len.0, c.requires.samples_len.1, c.requires.samples_len.2);
-      masks_value = c.requires.masks_value;
-      marks_len_bound = c.requires.samples_value.1;
-      used_value = c.requires.used_value;
+      paired = ap length (samples-read (goal.at.invariant_of-halves c).After-narrow) ∙ c.args.marked.now.paired;
+      few = c.args.marked.now.few;
+      gathered = c.args.marked.now.gathered;
     }
 
 pub returns : goal.returns
@@ -78,6 +77,6 @@ returns c =
     c.both_admitted.ensures
     ∙ ap
     (λ (ss : List ℕ).
-    all_below (length a.masks.now) (λ u. sparse ss a.marks.now (matches word_bits (members c.turned_states.result u) (get_or a.masks.now u 0) (get_or a.values.now u 0)) u))
+    all_below (length a.patterns.now.masks.now) (λ u. sparse ss a.marked.now.marks.now (matches word_bits (members c.turned_states.result u) (get_or a.patterns.now.masks.now u 0) (get_or a.patterns.now.values.now u 0)) u))
     (samples-read (goal.at.returns c).After-narrow)
-    ∙ sparse-turned a.samples.now a.marks.now a.masks.now a.values.now a.inverted c.turned_states.result c.turned_states.ensures
+    ∙ sparse-turned a.marked.now.samples.now a.marked.now.marks.now a.patterns.now.masks.now a.patterns.now.values.now a.inverted c.turned_states.result c.turned_states.ensures

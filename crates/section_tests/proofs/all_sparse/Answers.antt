@@ -32,13 +32,13 @@ tested samples marks turned over mask value all u h t e =
     ∙ sparse-same samples marks inside (matches word_bits over mask value) (λ x. matches-part word_bits over mask value x h) u))
 
 -- a mask is a word
-small : (c : In-loop-u) → get_or c.args.masks.now c.loop-u.u 0 < 2 ^ word_bits
-small c = below-take (2 ^ word_bits) c.args.masks.now c.requires.masks_value c.loop-u.u (omega arith)
+small : (c : In-loop-u) → get_or c.args.patterns.now.masks.now c.loop-u.u 0 < 2 ^ word_bits
+small c = below-take (2 ^ word_bits) c.args.patterns.now.masks.now c.args.patterns.now.masks_fit c.loop-u.u (omega arith)
 
 pub loop-u-init : goal.loop-u-init
 loop-u-init c =
     let a = c.args in
-    test_none (admitted a.masks.now a.values.now a.turned a.samples.now a.marks.now)
+    test_none (admitted a.patterns.now.masks.now a.patterns.now.values.now a.turned a.samples.now a.marks.now)
 
 pub overflow_cast-mask : goal.overflow_cast-mask
 overflow_cast-mask c =
@@ -47,22 +47,22 @@ overflow_cast-mask c =
 pub overflow_cast-wanted : goal.overflow_cast-wanted
 overflow_cast-wanted c =
     let a = c.args in
-    omega (arith, small (goal.at.overflow_cast-wanted c).In-loop-u, and_le_r (get_or a.values.now c.loop-u.u 0) (get_or a.masks.now c.loop-u.u 0))
+    omega (arith, small (goal.at.overflow_cast-wanted c).In-loop-u, and_le_r (get_or a.patterns.now.values.now c.loop-u.u 0) (get_or a.patterns.now.masks.now c.loop-u.u 0))
 
 pub strays-stray-requires : goal.strays-stray-requires
 strays-stray-requires c =
     let a = c.args in record {
       samples_len = (c.requires.samples_len.0, small (goal.at.strays-stray-requires c).In-loop-u);
-      mask_value = and_again (get_or a.values.now c.loop-u.u 0) (get_or a.masks.now c.loop-u.u 0);
+      mask_value = and_again (get_or a.patterns.now.values.now c.loop-u.u 0) (get_or a.patterns.now.masks.now c.loop-u.u 0);
     }
 
 pub loop-u-preserved : goal.loop-u-preserved
 loop-u-preserved c =
     let l = c.loop-u in
     let a = c.args in
-    let P = admitted a.masks.now a.values.now a.turned a.samples.now a.marks.now in
-    let mask = get_or a.masks.now l.u 0 in
-    let value = get_or a.values.now l.u 0 in
+    let P = admitted a.patterns.now.masks.now a.patterns.now.values.now a.turned a.samples.now a.marks.now in
+    let mask = get_or a.patterns.now.masks.now l.u 0 in
+    let value = get_or a.patterns.now.values.now l.u 0 in
     let word = small (goal.at.loop-u-preserved c).In-loop-u in
     elim c.if-has.branch [
       | then-has w ↦
@@ -82,4 +82,4 @@ pub returns : goal.returns
 returns c =
     let a = c.args in
     let l = c.loop-u in
-    test_all (admitted a.masks.now a.values.now a.turned a.samples.now a.marks.now) (length a.masks.now) l.u l.all l.invariant (omega arith)
+    test_all (admitted a.patterns.now.masks.now a.patterns.now.values.now a.turned a.samples.now a.marks.now) (length a.patterns.now.masks.now) l.u l.all l.invariant (omega arith)

@@ -17,4 +17,4 @@ admitted masks values turned samples marks u =
 
 abbrev pub invariant-loop-u : goal.invariant-loop-u
 invariant-loop-u l =
-    l.all ≡ all_below l.u (admitted l.masks l.values l.turned l.samples l.marks)
+    l.all ≡ all_below l.u (admitted l.patterns.masks.now l.patterns.values.now l.turned l.samples l.marks)

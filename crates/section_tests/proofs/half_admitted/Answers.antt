@@ -24,30 +24,30 @@ abbrev zeros : List ℕ
 zeros = replicate max_nodes 0
 
 -- the array has room for them
-room : (c : Start) → let n = length c.args.marks.now in n ≡ length (take n zeros)
-room c = sym (length-take-le (length c.args.marks.now) zeros c.requires.marks_len_bound.0)
+room : (c : Start) → let n = length c.args.marked.now.marks.now in n ≡ length (take n zeros)
+room c = sym (length-take-le (length c.args.marked.now.marks.now) zeros c.args.marked.now.few)
 
 -- what is read of the array
 signs_read : (c : After-narrow)
     → let a = c.args in
-    let n = length a.marks.now in
-    take n (c.narrow.new.place ++ drop n zeros) ≡ halves a.first a.marks.now
+    let n = length a.marked.now.marks.now in
+    take n (c.narrow.new.place ++ drop n zeros) ≡ halves a.first a.marked.now.marks.now
 signs_read c =
     let a = c.args in
-    front_read zeros c.narrow.new.place (halves a.first a.marks.now) (length a.marks.now) c.narrow.ensures
-    (halves_long a.marks.now a.first)
+    front_read zeros c.narrow.new.place (halves a.first a.marked.now.marks.now) (length a.marked.now.marks.now) c.narrow.ensures
+    (halves_long a.marked.now.marks.now a.first)
 
 pub returns-then-some-eq0 : goal.returns-then-some-eq0
 returns-then-some-eq0 c =
     let a = c.args in
     let first = a.first in
     sym
-    (all_make (length a.masks.now) (admitted a.samples.now a.marks.now a.turned a.masks.now a.values.now first)
+    (all_make (length a.patterns.now.masks.now) (admitted a.marked.now.samples.now a.marked.now.marks.now a.turned a.patterns.now.masks.now a.patterns.now.values.now first)
     (λ u l.
-    sparse-none a.samples.now a.marks.now (matches word_bits (members a.turned (first + u)) (get_or a.masks.now u 0) (get_or a.values.now u 0))
+    sparse-none a.marked.now.samples.now a.marked.now.marks.now (matches word_bits (members a.turned (first + u)) (get_or a.patterns.now.masks.now u 0) (get_or a.patterns.now.values.now u 0))
     (first + u)
-    (ap (λ (X : Set). X (first + u)) (sym c.requires.used_value)
-    ∙ sym (shifted_members first a.used u)
+    (ap (λ (X : Set). X (first + u)) (sym c.args.marked.now.gathered)
+    ∙ sym (shifted_members first a.marked.now.used u)
     ∙ ap (λ (w : ℕ). members w u) c.if-some-eq0.true
     ∙ zero-members u)))
 
@@ -57,39 +57,38 @@ slice_bounds-narrow-end c =
 
 pub narrow-requires : goal.narrow-requires
 narrow-requires c =
-    (room (goal.at.narrow-requires c).Start, omega (arith, c.requires.marks_len_bound.1))
+    (room (goal.at.narrow-requires c).Start, omega (arith, c.requires.1))
 
 pub slice_bounds-signs-end-2 : goal.slice_bounds-signs-end-2
 slice_bounds-signs-end-2 c =
     let a = c.args in
-    front-inside c.narrow.new.place (halves a.first a.marks.now) (drop (length a.marks.now) zeros) (length a.marks.now) c.narrow.ensures
-    (halves_long a.marks.now a.first)
+    front-inside c.narrow.new.place (halves a.first a.marked.now.marks.now) (drop (length a.marked.now.marks.now) zeros) (length a.marked.now.marks.now) c.narrow.ensures
+    (halves_long a.marked.now.marks.now a.first)
 
 pub slice_bounds-all_sparse-end : goal.slice_bounds-all_sparse-end
 slice_bounds-all_sparse-end c =
     let a = c.args in
-    sym (ap length (signs_read (goal.at.slice_bounds-all_sparse-end c).After-narrow) ∙ halves_long a.marks.now a.first)
+    sym (ap length (signs_read (goal.at.slice_bounds-all_sparse-end c).After-narrow) ∙ halves_long a.marked.now.marks.now a.first)
 
 pub all_sparse-requires : goal.all_sparse-requires
 all_sparse-requires c =
     let a = c.args in record {
-      samples_len = (c.requires.samples_len.0 ∙ sym (ap length (signs_read (goal.at.all_sparse-requires c).After-narrow) ∙ halves_long a.marks.now a.first), c.requires.samples_len.1, c.requires.samples_len.2);
-      masks_value = c.requires.masks_value;
+      samples_len = (c.args.marked.now.paired ∙ sym (ap length (signs_read (goal.at.all_sparse-requires c).After-narrow) ∙ halves_long a.marked.now.marks.now a.first), c.requires.0);
       by_index = λ u l.
-          subst (λ (ms : List ℕ). members (a.used / 2 ^ a.first) u ≡ gathers (length ms) (λ v. members (get_or ms v 0)) u) (sym (signs_read (goal.at.all_sparse-requires c).After-narrow))
-          (used_half a.marks.now a.first a.used c.requires.used_value u l);
+          subst (λ (ms : List ℕ). members (a.marked.now.used / 2 ^ a.first) u ≡ gathers (length ms) (λ v. members (get_or ms v 0)) u) (sym (signs_read (goal.at.all_sparse-requires c).After-narrow))
+          (used_half a.marked.now.marks.now a.first a.marked.now.used c.args.marked.now.gathered u l);
     }
 
 pub returns : goal.returns
 returns c =
     let a = c.args in
     let first = a.first in
-    let test : ℕ → ℕ → Set = λ turned u. matches word_bits (members turned u) (get_or a.masks.now u 0) (get_or a.values.now u 0) in
+    let test : ℕ → ℕ → Set = λ turned u. matches word_bits (members turned u) (get_or a.patterns.now.masks.now u 0) (get_or a.patterns.now.values.now u 0) in
     c.all_sparse.ensures
-    ∙ ap (λ (ms : List ℕ). all_below (length a.masks.now) (λ u. sparse a.samples.now ms (test (a.turned / 2 ^ first) u) u)) (signs_read (goal.at.returns c).After-narrow)
-    ∙ all_same (length a.masks.now) (λ u. sparse a.samples.now (halves first a.marks.now) (test (a.turned / 2 ^ first) u) u)
-    (admitted a.samples.now a.marks.now a.turned a.masks.now a.values.now first)
+    ∙ ap (λ (ms : List ℕ). all_below (length a.patterns.now.masks.now) (λ u. sparse a.marked.now.samples.now ms (test (a.turned / 2 ^ first) u) u)) (signs_read (goal.at.returns c).After-narrow)
+    ∙ all_same (length a.patterns.now.masks.now) (λ u. sparse a.marked.now.samples.now (halves first a.marked.now.marks.now) (test (a.turned / 2 ^ first) u) u)
+    (admitted a.marked.now.samples.now a.marked.now.marks.now a.turned a.patterns.now.masks.now a.patterns.now.values.now first)
     (λ u l.
-    sparse-half a.marks.now first a.samples.now (test (a.turned / 2 ^ first) u) u (omega (arith, c.requires.samples_len.2))
-    ∙ ap (λ (b : Bool). sparse a.samples.now a.marks.now (matches word_bits b (get_or a.masks.now u 0) (get_or a.values.now u 0)) (first + u))
+    sparse-half a.marked.now.marks.now first a.marked.now.samples.now (test (a.turned / 2 ^ first) u) u (omega (arith, c.requires.0))
+    ∙ ap (λ (b : Bool). sparse a.marked.now.samples.now a.marked.now.marks.now (matches word_bits b (get_or a.patterns.now.masks.now u 0) (get_or a.patterns.now.values.now u 0)) (first + u))
     (shifted_members first a.turned u))

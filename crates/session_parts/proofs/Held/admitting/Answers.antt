@@ -1,5 +1,4 @@
 -- The states that admit a node by the parts of the session.
-use Rattle.session.proofs.Decoded.{layout-facts}
 use Rattle.session.specs.Layout.{trigger_of}
 use Rattle.pair_tables.proofs.Tabling.{turned-below}
 use Rattle.session_parts.proofs.Admitted.{node-admitted}
@@ -8,11 +7,9 @@ use Rattle.session_parts.proofs.Held.admitting.Goals as goal
 pub admitted_at-requires : goal.admitted_at-requires
 admitted_at-requires c =
     let t = trigger_of c.args.self.now in
-    let f = (layout-facts c.args.self.now c.masks.ensures.held).trigger in
-    rw (c.masks.ensures.is, c.values.ensures.is)
-    record { values_len = (f.values, f.few, f.masks_fit); by_index = turned-below t.masks t.inverted c.args.turned c.requires.0 }
+    rw c.patterns.ensures.masks (turned-below t.masks t.inverted c.args.turned c.requires.0)
 
 pub returns : goal.returns
 returns c =
-    node-admitted c.args.self.now c.args.turned c.masks.ensures.is c.values.ensures.is c.samples-samples.ensures.is
+    node-admitted c.args.self.now c.args.turned c.patterns.ensures.masks c.patterns.ensures.values c.samples-samples.ensures.is
     c.requires.0 c.args.node c.admitted_at.ensures
