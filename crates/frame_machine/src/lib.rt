@@ -1,4 +1,5 @@
-// The machine: it takes one line of input at a time, in memory that the caller lends.
+// The machine: it takes one line of input at a time, in memory that the caller lends. The slices come one by one, for of a slice the check
+// knows by itself that its length stays, and of the slices in a struct it does not.
 #![tactic(auto)]
 
 ghost use Rattle.std.specs.Prelude.{◌≡◌, ◌||◌, ltb};
