@@ -71,7 +71,12 @@ pub fn load_rule(memory: usize, room: usize, lists: &Lists) -> Result<(), Refusa
     if too_short(memory, room) {
         return Err(Refusal::MemoryShort);
     }
-    if states_wrong(states, lists.values.len(), lists.links.len(), lists.inverted) {
+    if states_wrong(
+        states,
+        lists.values.len(),
+        lists.links.len(),
+        lists.inverted,
+    ) {
         return Err(Refusal::StatesWrong);
     }
     if links_wrong(lists.links, states) {
