@@ -1,4 +1,5 @@
-// Answers as lines of an output.
+// Answers as lines of an output. Each call writes from a place on and hands on the next: of a slice the check knows by itself that its length stays, and of one
+// in a struct with its place it does not.
 #![tactic(auto)]
 
 ghost use Rattle.std.specs.Prelude.{◌≡◌, [], ◌∷◌, ◌++◌, ◌+◌, ◌*◌, ◌<◌, ◌≤◌, length};

@@ -7,7 +7,8 @@ ghost use Rattle.session.specs.Layout.{below};
 ghost use Rattle.edge_indexes.specs.Indexes.{Indexed, Noted, filled, Started, edges_from, starts_size};
 ghost use Rattle.simulation.specs.Ordered.{ascends};
 
-// The index of the edges that end at each node: the last of them by the node, and by each edge the one before it.
+// The index of the edges that end at each node: the last of them by the node, and by each edge the one before it. The tables are fixed, for there is no heap:
+// 0 ends a list, and k + 1 names edge k. An edge is taken apart by / and %, one operation each.
 #[derive(Clone, Copy)]
 pub struct IncomingIndex<'a> {
     pub heads: &'a [u32],

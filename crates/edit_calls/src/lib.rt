@@ -35,6 +35,7 @@ pub fn edit_proper(
 
 // Inserts or deletes the edge from start to end. Where no mark changed, there is nothing to list.
 // The two edits are one sequence: a flag tells which edge rules and which edit proper, and a closure for each would be no plainer.
+// Start and end are two numbers here and in the steps, as a caller in C hands them over and the rules test them.
 pub fn edit(session: &mut [u32], inserts: bool, start: u32, end: u32, changes: &mut [i32]) -> Answer
     ensures { Edited (kind_of inserts) session.old start end changes.old result session.new changes.new }
 {

@@ -62,7 +62,8 @@ pub fn memory_rule(
     Ok(())
 }
 
-// Answers a line in memory that breaks none of its own rules: the lines of its answer are put at the front of the output.
+// Answers a line in memory that breaks none of its own rules: the lines of its answer are put at the front of the output. The moment is a word of the lent memory,
+// 0 before an accepted run and 1 after it.
 pub fn answer_line(
     counts: &mut [u32],
     words: &mut [u16],

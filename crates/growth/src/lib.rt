@@ -26,7 +26,8 @@ pub fn try_at(trials: &mut [u32], waiting: &mut [u32], node: usize, more: u32)
     }
 }
 
-// Looks at the node v, which no longer waits: the fresh pairs at its predecessors with a link to a pair at v are tried too.
+// Looks at the node v, which no longer waits: the fresh pairs at its predecessors with a link to a pair at v are tried too. The edges that end at v are gone
+// along as in `call_in_by_index`: an iterator of its own, with what it yields and that it ends, would be longer than the two loops.
 pub fn spread(
     net: &Net,
     index: IncomingIndex,

@@ -46,7 +46,7 @@ pub fn nodes_wrong(starts: &[u32], ends: &[u32], nodes: u32) -> bool
 pub fn comes_before(a: u32, b: u32, c: u32, d: u32) -> bool
     ensures { result ≡ precedes a b c d }
 {
-    a < c || (a == c && b < d)
+    (a, b) < (c, d)
 }
 
 // Rule 9: the edges do not ascend strictly.

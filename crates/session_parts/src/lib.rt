@@ -155,7 +155,8 @@ impl<'a> Held<'a> {
     }
 }
 
-// Writes a table to the session as its marks.
+// Writes a table to the session as its marks. What writes a session takes the words: a type over a `&mut` would have to be taken apart again at the end of each
+// call, to say what the memory then is.
 pub fn store_marks(session: &mut [u32], table: &[u32])
     requires { (in_layout session.old ≡ true) × (length table.now ≡ max_nodes) × Inside session.old table.now }
     ensures { session.new ≡ image (trigger_of session.old) (graph_of session.old) (marked table.now) ++ drop fixed_size session.old }
