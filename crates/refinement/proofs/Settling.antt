@@ -405,3 +405,13 @@ module _ (nodes : ℕ) (links es : List ℕ) (sound : Sound nodes links es) wher
             (first-before (waits ws) 0 max_nodes (q / n) (omega arith) (omega (arith, r.lowest)))))
             ∙ r.refines);
       }
+
+      -- a refinement that goes on from there leaves what one from the beginning does
+      pub refining_then : (ts ws : List ℕ) (v : ℕ) (ts' : List ℕ) → Refining nodes links es ss ts₀ ws₀ ts ws v → Settled nodes links es ss ts ws ts' → length ts₀ ≡ max_nodes
+          → Settled nodes links es ss ts₀ ws₀ ts'
+      refining_then ts ws v ts' r further long = record {
+        long = further.long ∙ r.long ∙ sym long;
+        within = λ u w h. r.within u w (further.within u w h);
+        holds = λ p h. further.holds p (subst (λ (X : Set). In X p) (sym r.refines) h);
+        exact = λ h p l. further.exact (r.supports h) p l ∙ ap (λ (X : Set). X p) r.refines;
+      }
