@@ -87,18 +87,15 @@ pub fn run_line(
     let states = counts[1] as usize;
     let nodes = counts[2] as usize;
     let inverted = bits::kept_below(counts[INVERTED_IN], states as u32);
-    let masks = &words[..states];
-    let values = &words[VALUES_IN..VALUES_IN + states];
-    let samples = &words[SAMPLES_IN..SAMPLES_IN + nodes];
-    let lists = Lists {
-        masks,
-        values,
-        links: &counts[LINKS_IN..LINKS_IN + states],
+    let lists = Lists::of(
+        &words[..states],
+        &words[VALUES_IN..VALUES_IN + states],
+        &counts[LINKS_IN..LINKS_IN + states],
         inverted,
-        samples,
-        starts: &[],
-        ends: &[],
-    };
+        &words[SAMPLES_IN..SAMPLES_IN + nodes],
+        &[],
+        &[],
+    );
     let answer = load(session, &lists, changes);
     move_on(counts, answer);
     put_answer(out, answer, changes)

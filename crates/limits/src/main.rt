@@ -16,7 +16,7 @@ fn show(rt: &impl Print, label: &str, answer: Answer) -> io::Result<()> {
     }
 }
 
-// What a load is given.
+// What a load is given, to be written as what differs from `LEAST`: a literal of `Lists`, which has an invariant, takes no rest.
 #[derive(Clone, Copy)]
 struct Given<'a> {
     masks: &'a [u16],
@@ -39,24 +39,6 @@ const LEAST: Given<'static> = Given {
     ends: &[],
 };
 
-// The same as the engine takes it. That a list has half words is known of a parameter, and not of a field: so these lists come by themselves too.
-fn lists<'a>(
-    given: Given<'a>,
-    masks: &'a [u16],
-    values: &'a [u16],
-    samples: &'a [u16],
-) -> Lists<'a> {
-    Lists {
-        masks,
-        values,
-        links: given.links,
-        inverted: given.inverted,
-        samples,
-        starts: given.starts,
-        ends: given.ends,
-    }
-}
-
 // Loads what is given into lent memory, and shows the answer.
 fn attempt(
     rt: &impl Print,
@@ -65,7 +47,15 @@ fn attempt(
     session: &mut [u32],
     changes: &mut [i32],
 ) -> io::Result<()> {
-    let lists = lists(given, given.masks, given.values, given.samples);
+    let lists = Lists::of(
+        given.masks,
+        given.values,
+        given.links,
+        given.inverted,
+        given.samples,
+        given.starts,
+        given.ends,
+    );
     show(rt, label, matching::load(session, &lists, changes))
 }
 

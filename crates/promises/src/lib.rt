@@ -45,7 +45,7 @@ impl fmt::Display for Refusal {
 impl Error for Refusal {}
 
 // What a load is given: a list for each field, and the set of inverted states. The fields stand in lists of their own, as a caller in C has them. That their
-// words are 16 bits wide is said by their type too.
+// words are 16 bits wide is known of parameters, and of fields where the type says it: `of` asks nothing.
 #[derive(Clone, Copy, Debug)]
 pub struct Lists<'a> {
     pub masks: &'a [u16],
@@ -58,6 +58,32 @@ pub struct Lists<'a> {
     ghost masks_fit: { (i : ℕ) → get_or masks.now i 0 < 2 ^ word_bits },
     ghost values_fit: { (i : ℕ) → get_or values.now i 0 < 2 ^ word_bits },
     ghost samples_fit: { (i : ℕ) → get_or samples.now i 0 < 2 ^ word_bits },
+}
+
+impl<'a> Lists<'a> {
+    ghost use Rattle.promises.specs.Rules.{given, given_by};
+
+    pub fn of(
+        masks: &'a [u16],
+        values: &'a [u16],
+        links: &'a [u32],
+        inverted: u32,
+        samples: &'a [u16],
+        starts: &'a [u32],
+        ends: &'a [u32],
+    ) -> Lists<'a>
+        ensures { given_by result ≡ given masks.now values.now links.now inverted samples.now starts.now ends.now }
+    {
+        Lists {
+            masks,
+            values,
+            links,
+            inverted,
+            samples,
+            starts,
+            ends,
+        }
+    }
 }
 
 // Whether every state that is reached from State One stands at some node.

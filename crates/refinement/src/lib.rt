@@ -60,12 +60,20 @@ pub fn kept(word: u32, links: &[u32], edges: &[u32], settled: &[u32], tentative:
 }
 
 // The states that keep their support at the node v.
-pub fn left_at(net: &Net, settled: &[u32], tentative: &[u32], v: usize) -> u32
-    requires { (length settled.now ≡ max_nodes) × (length tentative.now ≡ max_nodes) × (v < max_nodes) }
-    ensures { members result ≡ kept_of (get_or tentative.now v 0) net.now.links.now (edges_from net.now.edges.now v) settled.now tentative.now }
+pub fn left_at(
+    links: &[u32],
+    edges: &[u32],
+    firsts: Option<&[u32]>,
+    settled: &[u32],
+    tentative: &[u32],
+    v: usize,
+) -> u32
+    requires settled_len { (length settled.now ≡ max_nodes) × (length tentative.now ≡ max_nodes) × (v < max_nodes) × (length links.now ≤ set_bits) }
+    requires edges_value { (ascends edges.now ≡ true) × (length edges.now ≤ max_edges) × IfSome firsts (λ index. Started edges.now index.now) }
+    ensures { members result ≡ kept_of (get_or tentative.now v 0) links.now (edges_from edges.now v) settled.now tentative.now }
 {
-    let out = edges_at(net.edges, net.firsts, v);
-    kept(tentative[v], net.links, out, settled, tentative)
+    let out = edges_at(edges, firsts, v);
+    kept(tentative[v], links, out, settled, tentative)
 }
 
 // Looks at the node v, which no longer waits; where pairs are cleared there, the predecessors that may have stood on them are called in.
@@ -75,7 +83,7 @@ pub fn turn(net: &Net, settled: &[u32], tentative: &mut [u32], waiting: &mut [u3
 {
     take_out(waiting, v);
     let word = tentative[v];
-    let left = left_at(net, settled, tentative, v);
+    let left = left_at(net.links, net.edges, net.firsts, settled, tentative, v);
     if left != word {
         tentative[v] = left;
         let shaken = calling(net.links, net.callers, bits::difference(word, left));

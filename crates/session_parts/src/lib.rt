@@ -63,14 +63,14 @@ impl<'a> Held<'a> {
         ensures is { result.now ≡ (trigger_of self.now).masks }
         ensures held { in_layout self.now ≡ true }
     {
-        part_of(self.words, session::MASKS_AT, self.words[0] as usize)
+        part_of(self.words, session::MASKS_AT, self.states() as usize)
     }
 
     pub fn values(&self) -> &[u32]
         ensures is { result.now ≡ (trigger_of self.now).values }
         ensures held { in_layout self.now ≡ true }
     {
-        part_of(self.words, session::VALUES_AT, self.words[0] as usize)
+        part_of(self.words, session::VALUES_AT, self.states() as usize)
     }
 
     // The masks and values of its states.
@@ -89,7 +89,7 @@ impl<'a> Held<'a> {
         ensures is { result.now ≡ (trigger_of self.now).links }
         ensures held { in_layout self.now ≡ true }
     {
-        part_of(self.words, session::LINKS_AT, self.words[0] as usize)
+        part_of(self.words, session::LINKS_AT, self.states() as usize)
     }
 
     // The set of inverted states.
@@ -104,7 +104,7 @@ impl<'a> Held<'a> {
         ensures is { result.now ≡ (graph_of self.now).samples }
         ensures held { in_layout self.now ≡ true }
     {
-        part_of(self.words, session::SAMPLES_AT, self.words[1] as usize)
+        part_of(self.words, session::SAMPLES_AT, self.nodes())
     }
 
     pub fn edges(&self) -> &[u32]

@@ -69,14 +69,13 @@ pub fn try_pairs<'a>(
     let links = session.links();
     let mut callers = [0u32; CALLERS];
     index_callers(links, &mut callers);
-    let incoming = Some(index);
     let net = Net {
         links,
         edges: session.edges(),
         nodes,
         callers: Some(&callers),
         firsts: None,
-        incoming,
+        incoming: None,
     };
     grow(&net, index, &fresh, table, &mut waiting);
 }

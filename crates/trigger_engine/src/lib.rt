@@ -42,15 +42,7 @@ pub extern "C" fn trigger_load(
 ) -> u64
     ensures { Packs answer_number (λ a. Loaded (given masks.now values.now links.now inverted samples.now starts.now ends.now) session.old changes.old a session.new changes.new) result }
 {
-    let lists = Lists {
-        masks,
-        values,
-        links,
-        inverted,
-        samples,
-        starts,
-        ends,
-    };
+    let lists = Lists::of(masks, values, links, inverted, samples, starts, ends);
     answer_number(matching::load(session, &lists, changes))
 }
 

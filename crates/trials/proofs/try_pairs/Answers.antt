@@ -38,7 +38,7 @@ invariant_of-net c =
       sound = rw c.nodes-nodes.ensures.is (held_sound c.args.session.now c.nodes-nodes.ensures.held _ _ c.links-links.ensures.is c.edges.ensures.is);
       called = c.index_callers.ensures;
       started = tt;
-      indexed = rw c.edges.ensures.is c.requires.indexed.0;
+      indexed = tt;
     }
 
 pub grow-requires-clause-by_index : goal.grow-requires-clause-by_index
