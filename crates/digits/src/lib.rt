@@ -1,7 +1,8 @@
 // Hexadecimal digits: a byte or a line read, a number written.
 #![tactic(auto)]
 
-ghost use Rattle.std.specs.Prelude.{◌≡◌, true, ◌<◌, ◌≤◌, ◌+◌, ◌*◌, ltb, cond, length};
+ghost use Rattle.std.specs.Prelude.{◌≡◌, true, IfSome, ◌<◌, ◌≤◌, ◌+◌, ◌*◌, ltb, cond, length, take, drop};
+ghost use Rattle.std.specs.Option.{is_some};
 ghost use Rattle.listing.specs.Placed.{Placed};
 ghost use Rattle.frames.specs.Digits as d;
 
@@ -28,24 +29,66 @@ pub fn hexadecimal(line: &[u8]) -> bool
     all
 }
 
-// The number that eight digits or fewer write, the most significant first.
-pub fn number(digits: &[u8]) -> u32
-    requires { (length digits.now ≤ 8) × (d.hexadecimal digits.now ≡ true) }
-    ensures { result ≡ d.number digits.now }
-{
-    let mut value = 0;
-    for &byte in digits {
-        value = value * 16 + digit(byte).unwrap();
-    }
-    value
+// Bytes that are digits, all of them.
+#[derive(Clone, Copy)]
+pub struct Hex<'a> {
+    pub bytes: &'a [u8],
+    ghost digits: { d.hexadecimal bytes.now ≡ true },
 }
 
-// The same of four digits or fewer, as a word of 16 bits.
-pub fn half(digits: &[u8]) -> u16
-    requires { (length digits.now ≤ 4) × (d.hexadecimal digits.now ≡ true) }
-    ensures { result ≡ d.number digits.now }
-{
-    number(digits) as u16
+impl<'a> Hex<'a> {
+    // The bytes of a line, where all are digits.
+    pub fn of(line: &'a [u8]) -> Option<Hex<'a>>
+        ensures some { is_some result ≡ d.hexadecimal line.now }
+        ensures bytes { IfSome result (λ hex. hex.bytes.now ≡ line.now) }
+    {
+        if !hexadecimal(line) {
+            return None;
+        }
+        Some(Hex { bytes: line })
+    }
+
+    // So many of them, from a place on.
+    #[tactic(auto, using(frames::proofs::Kinded::hex_front, frames::proofs::Kinded::hex_rest))]
+    pub fn part(&self, at: usize, count: usize) -> Hex<'a>
+        requires { at + count ≤ length self.now.bytes.now }
+        ensures is { result.bytes.now ≡ take count (drop at self.now.bytes.now) }
+        ensures long { length result.bytes.now ≡ count }
+    {
+        Hex {
+            bytes: &self.bytes[at..at + count],
+        }
+    }
+
+    // All of them, from a place on.
+    #[tactic(auto, using(frames::proofs::Kinded::hex_rest))]
+    pub fn after(&self, at: usize) -> Hex<'a>
+        requires { at ≤ length self.now.bytes.now }
+        ensures { result.bytes.now ≡ drop at self.now.bytes.now }
+    {
+        let (_, bytes) = self.bytes.split_at(at);
+        Hex { bytes }
+    }
+
+    // The number that eight digits or fewer write, the most significant first.
+    pub fn number(&self) -> u32
+        requires { length self.now.bytes.now ≤ 8 }
+        ensures { result ≡ d.number self.now.bytes.now }
+    {
+        let mut value = 0;
+        for &byte in self.bytes {
+            value = value * 16 + digit(byte).unwrap();
+        }
+        value
+    }
+
+    // The same of four digits or fewer, as a word of 16 bits.
+    pub fn half(&self) -> u16
+        requires { length self.now.bytes.now ≤ 4 }
+        ensures { result ≡ d.number self.now.bytes.now }
+    {
+        self.number() as u16
+    }
 }
 
 // The digit of a number at a place from the right.

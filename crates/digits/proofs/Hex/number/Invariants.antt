@@ -1,7 +1,7 @@
 -- The digits read so far, and what the rest makes of them. Eight fit 32 bits.
 use Rattle.frames.proofs.Hex.{Reading}
-use Rattle.digits.proofs.number.Given as goal
+use Rattle.digits.proofs.Hex.number.Given as goal
 
 abbrev pub invariant-loop-byte : goal.invariant-loop-byte
 invariant-loop-byte l =
-    Reading l.digits l.value l.byte-index
+    Reading l.self.bytes.now l.value l.byte-index
