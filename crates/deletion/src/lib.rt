@@ -1,8 +1,8 @@
 // A deletion: the marks that an edge less leaves.
 #![tactic(auto)]
 
-ghost use Rattle.std.specs.Prelude.{◌≡◌, true, ◌<◌, length, take, drop};
-ghost use Rattle.session.specs.Limits.{marks_at, max_nodes};
+ghost use Rattle.std.specs.Prelude.{◌≡◌, true, ◌<◌, length};
+ghost use Rattle.session.specs.Limits.{max_nodes};
 ghost use Rattle.session.specs.Trigger.{nodes};
 ghost use Rattle.session.specs.Layout.{trigger_of, graph_of, marks_of, in_layout};
 ghost use Rattle.pair_tables.specs.Tables.{marked};

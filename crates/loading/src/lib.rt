@@ -1,9 +1,9 @@
 // The call that loads a trigger and a graph.
 #![tactic(auto)]
 
-ghost use Rattle.std.specs.Prelude.{◌≡◌, true, false, ℕ, length, get_or, drop, ◌++◌};
+ghost use Rattle.std.specs.Prelude.{◌≡◌, false, ℕ, length, get_or, drop, ◌++◌};
 ghost use Rattle.session.specs.Limits.{max_nodes, fixed_size, max_changes};
-ghost use Rattle.session.specs.Layout.{in_layout, image};
+ghost use Rattle.session.specs.Layout.{image};
 ghost use Rattle.loading.specs.Solved.{Solved};
 ghost use Rattle.promises.specs.Rules.{given_by, given_trigger, given_graph, load_rules, verdict};
 ghost use Rattle.promises.specs.Promises.{Loaded};

@@ -6,9 +6,8 @@ ghost use Rattle.bits.specs.Word.{members, set_bits};
 ghost use Rattle.simulation.specs.Ordered.{ascends};
 ghost use Rattle.session.specs.Limits.{max_edges, max_nodes};
 ghost use Rattle.pair_tables.specs.Tables.{marked};
-ghost use Rattle.refinement.specs.Refining.{carried, kept_of, unmet_of, Sound, Turned, Refining, Settled};
-ghost use Rattle.edge_indexes.specs.Indexes.{edges_from, Started, Indexed};
-ghost use Rattle.links.specs.Links.{Callers};
+ghost use Rattle.refinement.specs.Refining.{carried, kept_of, unmet_of, Turned, Refining, Settled};
+ghost use Rattle.edge_indexes.specs.Indexes.{edges_from, Started};
 ghost use Rattle.worklist.specs.Waiting.{waiting_words, lowest_waiting};
 
 pub mod nets;
