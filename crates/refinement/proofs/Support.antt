@@ -113,6 +113,9 @@ module _ (set : ℕ) (es ss ts : List ℕ) where
     pub searching_end : length es ≤ k → (o : ℕ) → members rest o ≡ (members set o && not (carried es ss ts o))
     searching_end l = ended (λ o m. r.unseen o m ∙ carried-end es ss ts o k l)
 
+    pub searching_done : rest ≡ 0 → (o : ℕ) → members rest o ≡ (members set o && not (carried es ss ts o))
+    searching_done e = ended (λ o m. clash m (ap (λ (w : ℕ). members w o) e ∙ zero-members o))
+
 -- ---- what a word keeps: the states without a link to one that is missing
 
 module _ (word : ℕ) (links es ss ts : List ℕ) (missing : ℕ) (lacks : members missing ≡ unmet_of word links es ss ts) where

@@ -17,19 +17,28 @@ use links::{CALLERS, calling, index_callers, linked, linking, unlinked};
 use nets::Net;
 use worklist::{call_in, lowest_in, take_out};
 
-// The links of the set without a carrier among the edges of a node. An edge strikes off every link that it carries, and the search ends where none is
-// left.
+// The links of the set without a carrier among the edges of a node. The search for one ends at the first found, and an edge is looked at once: it
+// strikes off every link that it carries. The search for the next link goes on behind the edge found, so the place is kept by hand.
 pub fn missing(set: u32, edges: &[u32], settled: &[u32], tentative: &[u32]) -> u32
     requires { (length settled.now ≡ max_nodes) × (length tentative.now ≡ max_nodes) }
     ensures { (o : ℕ) → members result o ≡ (members set o && not (carried edges.now settled.now tentative.now o)) }
 {
     let mut rest = set;
-    for edge in edges {
-        if rest == 0 {
-            break;
-        }
-        let end = (edge % session::EDGE_BASE) as usize;
-        rest = bits::difference(rest, settled[end] | tentative[end]);
+    let mut k = 0;
+    'links: while rest != 0 {
+        let link = bits::lowest(rest);
+        let carrier = loop {
+            if edges.len() <= k {
+                break 'links;
+            }
+            let end = (edges[k] % session::EDGE_BASE) as usize;
+            rest = bits::difference(rest, settled[end] | tentative[end]);
+            if !bits::has(rest, link) {
+                break k;
+            }
+            k += 1;
+        };
+        k = carrier + 1;
     }
     rest
 }
