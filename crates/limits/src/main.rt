@@ -275,29 +275,37 @@ fn graphs(rt: &impl Print) -> io::Result<()> {
     ringed(rt, "2049 edges", &starts::<2049>(), &ends::<2049>())
 }
 
-// What is lent.
+// What is lent: one memory and one room, and parts of them.
 fn lengths(rt: &impl Print) -> io::Result<()> {
-    tried(rt, "memory and room as long as they must be", LEAST)?;
+    let mut session = [7; session::FIXED_SIZE];
+    let mut changes = [7; session::MAX_CHANGES];
+    attempt(
+        rt,
+        "memory and room as long as they must be",
+        LEAST,
+        &mut session,
+        &mut changes,
+    )?;
     attempt(
         rt,
         "memory one word short",
         LEAST,
-        &mut [7; session::FIXED_SIZE - 1],
-        &mut [7; session::MAX_CHANGES],
+        &mut session[1..],
+        &mut changes,
     )?;
     attempt(
         rt,
         "room one place short",
         LEAST,
-        &mut [7; session::FIXED_SIZE],
-        &mut [7; session::MAX_CHANGES - 1],
+        &mut session,
+        &mut changes[1..],
     )?;
     attempt(
         rt,
         "room of 8192 places",
         LEAST,
-        &mut [7; session::FIXED_SIZE],
-        &mut [7; 8192],
+        &mut session,
+        &mut changes[..8192],
     )
 }
 
