@@ -45,8 +45,8 @@ enum {
    arguments on the stack, the return address, and what the call writes below them. memset, memcpy and memmove of the C library are counted with it; each
    took no more than its return address there. tests/c/stack.c measures the greatest of each call on a painted stack, over its inputs, up to full sessions,
    and fails where it is more than is said here. The figures are those of an archive by an earlier toolchain; today's archive takes at most as much, and
-   README.md says how much. The frames in its code, summed along every path of calls, come to what is measured; only an insertion has a path, of 29,680,
-   that no input there takes (19,064). Measured and summed, not proved. For another machine, compiler or C library they have to be measured again. What an interrupt puts on the same stack is not in them.
+   README.md says how much. The frames in its code, summed along every path of calls, come to what is measured; only an insertion has a path, of 29,632,
+   that no input there takes (19,048). Measured and summed, not proved. For another machine, compiler or C library they have to be measured again. What an interrupt puts on the same stack is not in them.
    No function of the engine calls itself, directly or through others, but one: the visit of the depth-first walk, which only trigger_order uses. A visit
    begins only at a state not yet visited, and the number of states not yet visited falls with each visit in a visit, by its proof
    (crates/walk_order/proofs): at most 32 are under way at once, the first one counted. */

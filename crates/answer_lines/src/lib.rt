@@ -39,14 +39,21 @@ pub fn put_head(out: &mut [u8], at: usize, kind: u32, number: u32) -> usize
     put_digits(out, next, 2, number)
 }
 
-// Writes the line of a refusal.
-pub fn put_refusal(out: &mut [u8], at: usize, rule: Refusal) -> usize
+// Writes the line of a refusal, whose rule is given by its number.
+pub fn put_refusal(out: &mut [u8], at: usize, rule: u8) -> usize
+    requires { at + 5 ≤ length out.old }
+    ensures { Placed out.old at (o.refusal rule) out.new result }
+{
+    let next = put_head(out, at, Kind::Refusal as u32, rule as u32);
+    put_byte(out, next, b'\n')
+}
+
+// The same of the rule that a call broke.
+pub fn put_broken(out: &mut [u8], at: usize, rule: Refusal) -> usize
     requires { at + 5 ≤ length out.old }
     ensures { Placed out.old at (o.refusal (number rule)) out.new result }
 {
-    let number = u32::from(u8::from(rule));
-    let next = put_head(out, at, Kind::Refusal as u32, number);
-    put_byte(out, next, b'\n')
+    put_refusal(out, at, u8::from(rule))
 }
 
 // Writes two numbers of four digits, and the line feed.
@@ -131,6 +138,6 @@ pub fn put_answer(out: &mut [u8], answer: Answer, room: &[i32]) -> usize
             let next = put_report(out, 0, fires, report.trials, report.changes);
             put_changes(out, next, changed_part(room, answer))
         }
-        Err(rule) => put_refusal(out, 0, rule),
+        Err(rule) => put_broken(out, 0, rule),
     }
 }

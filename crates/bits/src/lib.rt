@@ -185,5 +185,8 @@ pub fn picked<W: Word>(word: W, test: bool) -> W
 // Every bit.
 pub const ALL: u32 = 4294967295;
 
+// Every bit of half a word.
+pub const ALL_HALF: u16 = 65535;
+
 // The lower half.
-pub const LOWER: u32 = 65535;
+pub const LOWER: u32 = ALL_HALF as u32;

@@ -127,8 +127,9 @@ pub fn put_digits(out: &mut [u8], at: usize, count: u32, value: u32) -> usize
     ensures { Placed out.old at (d.digits count value) out.new result }
 {
     let mut next = at;
-    let rest = count % 4;
-    for i in (0..count / 4).rev() {
+    let fours = count >> 2;
+    let rest = count - fours * 4;
+    for i in (0..fours).rev() {
         let left = rest + i * 4;
         let bytes = letters(value >> (left * 4));
         out[next..next + 4].copy_from_slice(&bytes);

@@ -72,6 +72,17 @@ pub fn edge_of(fields: &Hex) -> Option<Edge>
     Some(Edge { start, end })
 }
 
+// A frame that has no fields.
+#[tactic(auto, unfolding(frames::specs::Frames::spoken))]
+pub fn bare_frame(fields: &[u8], runs: bool) -> Option<Frame>
+    ensures { f.said result ≡ f.spoken (cond runs 3 6) fields.now }
+{
+    if !fields.is_empty() {
+        return None;
+    }
+    Some(if runs { Frame::Run } else { Frame::Walk })
+}
+
 // The frame of a kind, with these fields. The kinds are numbers of the input, and named here alone.
 #[tactic(auto, unfolding(frames::specs::Frames::spoken))]
 pub fn spoken(kind: u32, fields: &Hex) -> Option<Frame>
@@ -80,10 +91,10 @@ pub fn spoken(kind: u32, fields: &Hex) -> Option<Frame>
     match kind {
         1 => state_of(fields, false).map(Frame::State),
         2 => sample_of(fields).map(Frame::Node),
-        3 => fields.bytes.is_empty().then_some(Frame::Run),
+        3 => bare_frame(fields.bytes, true),
         4 => edge_of(fields).map(Frame::Insert),
         5 => edge_of(fields).map(Frame::Delete),
-        6 => fields.bytes.is_empty().then_some(Frame::Walk),
+        6 => bare_frame(fields.bytes, false),
         7 => state_of(fields, true).map(Frame::State),
         10 => wide_of(fields).map(Frame::State),
         _ => None,

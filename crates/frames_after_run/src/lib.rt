@@ -6,7 +6,7 @@ ghost use Rattle.editing.specs.Steps.{kind_of};
 ghost use Rattle.frames.specs.Frames as f;
 ghost use Rattle.frames.specs.Machine as m;
 
-use answer_lines::{put_answer, put_order, put_refusal};
+use answer_lines::{put_answer, put_broken, put_order};
 use edit_calls::edit;
 use frames::Frame;
 use promises::Refusal;
@@ -36,7 +36,7 @@ pub fn walk_line(session: &[u32], out: &mut [u8]) -> usize
 {
     match order(session) {
         Ok(order) => put_order(out, 0, &order.states[..order.count as usize]),
-        Err(rule) => put_refusal(out, 0, rule),
+        Err(rule) => put_broken(out, 0, rule),
     }
 }
 
@@ -54,7 +54,7 @@ pub fn after_run(
         Some(Frame::Insert(edge)) => edit_line(session, changes, true, edge.start, edge.end, out),
         Some(Frame::Delete(edge)) => edit_line(session, changes, false, edge.start, edge.end, out),
         Some(Frame::Walk) => walk_line(session, out),
-        Some(_) => put_refusal(out, 0, Refusal::NotNow),
-        None => put_refusal(out, 0, Refusal::NoFrame),
+        Some(_) => put_broken(out, 0, Refusal::NotNow),
+        None => put_broken(out, 0, Refusal::NoFrame),
     }
 }

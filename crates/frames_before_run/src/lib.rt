@@ -7,7 +7,7 @@ ghost use Rattle.promises.specs.Answers.{told};
 ghost use Rattle.frames.specs.Frames as f;
 ghost use Rattle.frames.specs.Machine as m;
 
-use answer_lines::{put_answer, put_refusal};
+use answer_lines::{put_answer, put_broken};
 use frames::{Frame, State};
 use loading::load;
 use promises::{Answer, Lists, Refusal};
@@ -39,7 +39,7 @@ pub fn state_line(counts: &mut [u32], words: &mut [u16], state: State, out: &mut
 {
     let n = counts[1] as usize;
     if session::MAX_STATES <= n {
-        return put_refusal(out, 0, Refusal::StatesWrong);
+        return put_broken(out, 0, Refusal::StatesWrong);
     }
     counts[LINKS_IN + n] = state.links;
     counts[INVERTED_IN] = also_inverted(counts[INVERTED_IN], n as u32, state.inverted);
@@ -56,7 +56,7 @@ pub fn node_line(counts: &mut [u32], words: &mut [u16], sample: u16, out: &mut [
 {
     let n = counts[2] as usize;
     if session::MAX_NODES <= n {
-        return put_refusal(out, 0, Refusal::NodesWrong);
+        return put_broken(out, 0, Refusal::NodesWrong);
     }
     counts[2] = (n + 1) as u32;
     words[SAMPLES_IN + n] = sample;
@@ -117,7 +117,7 @@ pub fn before_run(
         Some(Frame::State(state)) => state_line(counts, words, state, out),
         Some(Frame::Node(sample)) => node_line(counts, words, sample, out),
         Some(Frame::Run) => run_line(counts, words, session, changes, out),
-        Some(_) => put_refusal(out, 0, Refusal::NotNow),
-        None => put_refusal(out, 0, Refusal::NoFrame),
+        Some(_) => put_broken(out, 0, Refusal::NotNow),
+        None => put_broken(out, 0, Refusal::NoFrame),
     }
 }

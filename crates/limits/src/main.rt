@@ -1,6 +1,9 @@
 // Loads at the limits of a trigger, a graph, the memory and the room: what each is answered.
 #![tactic(auto)]
 
+ghost use Rattle.std.specs.Prelude.{◌≤◌};
+ghost use Rattle.session.specs.Limits.{fixed_size, max_changes};
+
 use matching::{Answer, Lists};
 use std::{array, io};
 
@@ -39,14 +42,16 @@ const LEAST: Given<'static> = Given {
     ends: &[],
 };
 
-// Loads what is given into lent memory, and shows the answer.
+// Loads what is given, and shows the answer. So many words of a memory and places of a room are lent: one memory and one room serve all attempts.
 fn attempt(
     rt: &impl Print,
     label: &str,
     given: Given,
-    session: &mut [u32],
-    changes: &mut [i32],
-) -> io::Result<()> {
+    words: usize,
+    places: usize,
+) -> io::Result<()>
+    requires { (words ≤ fixed_size) × (places ≤ max_changes) }
+{
     let lists = Lists::of(
         given.masks,
         given.values,
@@ -56,14 +61,18 @@ fn attempt(
         given.starts,
         given.ends,
     );
-    show(rt, label, matching::load(session, &lists, changes))
+    let mut session = [7; session::FIXED_SIZE];
+    let mut changes = [7; session::MAX_CHANGES];
+    show(
+        rt,
+        label,
+        matching::load(&mut session[..words], &lists, &mut changes[..places]),
+    )
 }
 
 // The same with as much memory and room as there must be.
 fn tried(rt: &impl Print, label: &str, given: Given) -> io::Result<()> {
-    let mut session = [7; session::FIXED_SIZE];
-    let mut changes = [7; session::MAX_CHANGES];
-    attempt(rt, label, given, &mut session, &mut changes)
+    attempt(rt, label, given, session::FIXED_SIZE, session::MAX_CHANGES)
 }
 
 // States without links, over nodes that all of them admit.
@@ -282,23 +291,17 @@ fn lengths(rt: &impl Print) -> io::Result<()> {
         rt,
         "memory one word short",
         LEAST,
-        &mut [7; session::FIXED_SIZE - 1],
-        &mut [7; session::MAX_CHANGES],
+        session::FIXED_SIZE - 1,
+        session::MAX_CHANGES,
     )?;
     attempt(
         rt,
         "room one place short",
         LEAST,
-        &mut [7; session::FIXED_SIZE],
-        &mut [7; session::MAX_CHANGES - 1],
+        session::FIXED_SIZE,
+        session::MAX_CHANGES - 1,
     )?;
-    attempt(
-        rt,
-        "room of 8192 places",
-        LEAST,
-        &mut [7; session::FIXED_SIZE],
-        &mut [7; 8192],
-    )
+    attempt(rt, "room of 8192 places", LEAST, session::FIXED_SIZE, 8192)
 }
 
 // What is given in part.

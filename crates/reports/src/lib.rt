@@ -44,7 +44,8 @@ pub fn reached_marked(words: &[u32], links: &[u32]) -> bool
 pub fn fires_now(session: &Held) -> bool
     ensures { result ≡ fires (trigger_of session.now) (graph_of session.now) (marks_of session.now) }
 {
-    reached_marked(&session.marks()[..session.nodes()], session.links())
+    let marks = &session.marks()[..session.nodes()];
+    reached_marked(marks, session.links())
 }
 
 // How many changes an answer tells of.

@@ -59,14 +59,14 @@ impl<'a> Held<'a> {
         self.words[1] as usize
     }
 
-    pub fn masks(&self) -> &[u32]
+    pub fn masks(&self) -> &'a [u32]
         ensures is { result.now ≡ (trigger_of self.now).masks }
         ensures held { in_layout self.now ≡ true }
     {
         part_of(self.words, session::MASKS_AT, self.states() as usize)
     }
 
-    pub fn values(&self) -> &[u32]
+    pub fn values(&self) -> &'a [u32]
         ensures is { result.now ≡ (trigger_of self.now).values }
         ensures held { in_layout self.now ≡ true }
     {
@@ -74,7 +74,7 @@ impl<'a> Held<'a> {
     }
 
     // The masks and values of its states.
-    fn patterns(&self) -> Patterns<'_>
+    fn patterns(&self) -> Patterns<'a>
         ensures masks { result.masks.now ≡ (trigger_of self.now).masks }
         ensures values { result.values.now ≡ (trigger_of self.now).values }
         ensures held { in_layout self.now ≡ true }
@@ -85,7 +85,7 @@ impl<'a> Held<'a> {
         }
     }
 
-    pub fn links(&self) -> &[u32]
+    pub fn links(&self) -> &'a [u32]
         ensures is { result.now ≡ (trigger_of self.now).links }
         ensures held { in_layout self.now ≡ true }
     {
@@ -100,14 +100,14 @@ impl<'a> Held<'a> {
         self.words[session::INVERTED_AT]
     }
 
-    pub fn samples(&self) -> &[u32]
+    pub fn samples(&self) -> &'a [u32]
         ensures is { result.now ≡ (graph_of self.now).samples }
         ensures held { in_layout self.now ≡ true }
     {
         part_of(self.words, session::SAMPLES_AT, self.nodes())
     }
 
-    pub fn edges(&self) -> &[u32]
+    pub fn edges(&self) -> &'a [u32]
         ensures is { result.now ≡ (graph_of self.now).edges }
         ensures held { in_layout self.now ≡ true }
     {
@@ -123,7 +123,7 @@ impl<'a> Held<'a> {
     }
 
     // The mark words, a word for each node.
-    pub fn marks(&self) -> &[u32]
+    pub fn marks(&self) -> &'a [u32]
         ensures is { result.now ≡ take max_nodes (drop marks_at self.now) }
         ensures held { in_layout self.now ≡ true }
     {

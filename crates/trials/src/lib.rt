@@ -1,7 +1,7 @@
 // The trial set of an insertion: its seeds, whether they are the whole of it, its growth from them, and which of its pairs begin to stand.
 #![tactic(auto)]
 
-ghost use Rattle.std.specs.Prelude.{◌≡◌, true, ℕ, ◌<◌, ◌≤◌, length, get_or, IfSome};
+ghost use Rattle.std.specs.Prelude.{◌≡◌, true, ℕ, ◌<◌, ◌≤◌, length, get_or};
 ghost use Rattle.bits.specs.Word.{members};
 ghost use Rattle.session.specs.Limits.{max_nodes, max_edges, edge_numbers};
 ghost use Rattle.session.specs.Trigger.{nodes, pattern};
@@ -109,17 +109,17 @@ pub fn alone(session: &Held, start: u32, word: u32) -> bool
 // Up to this many trials the looks are few, and halving costs less than an index of all nodes.
 pub const FEW: u32 = 32;
 
-// Builds the index of first edges, in a table that is zero, where there are more than a few trials.
-pub fn starts_for<'a>(trials: u32, edges: &[u32], firsts: &'a mut [u32]) -> Option<&'a [u32]>
+// Builds the index of first edges, in a table that is zero, where there are more than a few trials: whether it is built.
+pub fn starts_for(trials: u32, edges: &[u32], firsts: &mut [u32]) -> bool
     requires edges_len_bound { (length edges.now ≤ max_edges) × (ascends edges.now ≡ true) × (below edge_numbers edges.now ≡ true) × (length firsts.old ≡ starts_size) }
     requires by_index { (v : ℕ) → get_or firsts.old v 0 ≡ 0 }
-    ensures { IfSome result (λ index. Started edges.now index.now) }
+    ensures { result ≡ true → Started edges.now firsts.new }
 {
     if trials <= FEW {
-        return None;
+        return false;
     }
     index_starts(edges, firsts);
-    Some(firsts)
+    true
 }
 
 // Refines a table of trials beside the marks: what is left begins to stand. Their number only decides whether an index is built.
@@ -133,7 +133,8 @@ pub fn begin<'a>(session: &'a Held, trials: u32, index: IncomingIndex<'a>, table
     call_all(table, &mut waiting);
     let edges = session.edges();
     let mut starts = [0u32; STARTS];
-    let firsts = starts_for(trials, edges, &mut starts);
+    let built = starts_for(trials, edges, &mut starts);
+    let firsts = built.then_some(&starts[..]);
     let links = session.links();
     let mut callers = [0u32; CALLERS];
     index_callers(links, &mut callers);

@@ -29,4 +29,4 @@ returns-in-Ok c =
 
 pub returns-in-Err : goal.returns-in-Err
 returns-in-Err c =
-    rw (ap told c.in-Err.is) c.put_refusal.ensures
+    rw (ap told c.in-Err.is) c.put_broken.ensures

@@ -19,9 +19,9 @@ few c =
     let xs = c.args.session.now in
     omega (arith, c.nodes.ensures.is, ap length c.marks.ensures.is, marks-long xs c.marks.ensures.held, (layout_limits xs c.marks.ensures.held).few_nodes)
 
-pub slice_bounds-reached_marked-end : goal.slice_bounds-reached_marked-end
-slice_bounds-reached_marked-end c =
-    sym (length-take-le _ _ (few (goal.at.slice_bounds-reached_marked-end c).After-nodes))
+pub slice_bounds-marks-end : goal.slice_bounds-marks-end
+slice_bounds-marks-end c =
+    sym (length-take-le _ _ (few (goal.at.slice_bounds-marks-end c).After-nodes))
 
 pub reached_marked-requires : goal.reached_marked-requires
 reached_marked-requires c =

@@ -1,6 +1,9 @@
 -- The trials are refined beside the marks, from every node that has one, to the end, since there is an index.
 use native.Mathlib.Omega.{arith}
-use mathlib.Core.Path.{refl, ◌∙◌, ap}
+use mathlib.Core.Path.{◌≡◌, refl, ◌∙◌, ap}
+use mathlib.Core.Bool.{Bool, true, false}
+use Rattle.std.specs.Bool.{then_some}
+use Rattle.std.specs.Prelude.{IfSome}
 use lib.ListN.{length, get_or, replicate}
 use borrow.Author.Tests.{ne_eqb}
 use Rattle.simulation.proofs.Sets.{or_r, not_make}
@@ -14,11 +17,16 @@ use Rattle.refinement.proofs.Systems.{held_sound}
 use Rattle.session_parts.proofs.Parts.{marks-long}
 use Rattle.editing.proofs.Refining.{trials-refined}
 use Rattle.bits.specs.Word.{set_bits}
-use Rattle.edge_indexes.specs.Indexes.{starts_size}
+use Rattle.edge_indexes.specs.Indexes.{Started, starts_size}
 use Rattle.trials.proofs.begin.Goals as goal
 
-pub starts_for-firsts-requires : goal.starts_for-firsts-requires
-starts_for-firsts-requires c =
+-- the index is there only where it was built
+if_built : {A : Type 0} (P : A → Type 0) (b : Bool) (x : A) → (b ≡ true → P x) → IfSome (then_some b x) P
+if_built P true x holds = holds refl
+if_built P false x holds = tt
+
+pub starts_for-built-requires : goal.starts_for-built-requires
+starts_for-built-requires c =
     let xs = c.args.session.now in
     let sound = held_sound xs c.nodes-nodes.ensures.held (trigger_of xs).links _ refl c.edges-edges.ensures.is in
     record {
@@ -36,7 +44,7 @@ invariant_of-net c =
     record {
       sound = rw c.nodes-nodes.ensures.is (held_sound c.args.session.now c.nodes-nodes.ensures.held _ _ c.links-links.ensures.is c.edges-edges.ensures.is);
       called = c.index_callers.ensures;
-      started = c.starts_for-firsts.ensures;
+      started = rw c.then_some-firsts.ensures (if_built (λ index. Started c.edges-edges.result.now index.now) c.starts_for-built.result _ c.starts_for-built.ensures);
       indexed = rw c.edges-edges.ensures.is c.requires.indexed;
     }
 
