@@ -42,7 +42,7 @@ const LEAST: Given<'static> = Given {
     ends: &[],
 };
 
-// Loads what is given, and shows the answer. So many words of a memory and places of a room are lent: one memory and one room serve all attempts.
+// Loads what is given, and shows the answer. So many words of a memory and places of a room are lent: both stand here alone, and in no caller's frame.
 fn attempt(
     rt: &impl Print,
     label: &str,
